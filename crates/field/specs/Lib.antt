@@ -1,0 +1,9 @@
+-- What document 01 defines. Meanings come first: relations in the document's words. Workings compute, and each agrees with its meaning.
+pub mod Map
+pub mod Refusals
+pub mod Labels
+pub mod Groups
+pub mod Distances
+pub mod Hops
+pub mod Drives
+pub mod Chooser

@@ -1,0 +1,61 @@
+-- The map: limits, crossings and their numbers, neighbours, distance. Every statement is over the limits' names.
+use mathlib.Core.Path.{_≡_}
+use mathlib.Core.List.{List}
+use Prim.Native.Nat.{ℕ, _+_, _*_, _-_, _<_, _≤_}
+use lib.ListN.{getD}
+
+-- "Width and height: 1 to 64 each."
+unfoldable pub side : ℕ
+side = 64
+
+-- "At most 4,096 are in use."
+unfoldable pub most-markers : ℕ
+most-markers = 4096
+
+-- "... or 255 if there is none. 255 is no distance: the largest is 63."
+unfoldable pub no-distance : ℕ
+no-distance = 255
+
+-- "Width and height: 1 to 64 each."
+pub record Sides (w h : ℕ) : Type 0 where
+  pub some-w : 1 ≤ w
+  pub some-h : 1 ≤ h
+  pub most-w : w ≤ side
+  pub most-h : h ≤ side
+
+-- "A crossing is (x, y), x rising to the east from 0, y rising to the north from 0." Places "are off the map if x is not below the width or y
+-- not below the height".
+pub record On (w h x y : ℕ) : Type 0 where
+  pub in-x : x < w
+  pub in-y : y < h
+
+-- "Its number is y × width + x."
+abbrev pub number : ℕ → ℕ → ℕ → ℕ
+number w x y = y * w + x
+
+-- A sheet has one byte a crossing, by number: what stands there for (x, y).
+abbrev pub at : List ℕ → ℕ → ℕ → ℕ → ℕ
+at s w x y = getD s (number w x y) 0
+
+-- "Neighbours differ by one in x or in y, never both." (a, b) is a neighbour of (x, y). What lies past the edge is no crossing of the map, and
+-- no set of crossings has it: so "an edge crossing simply has fewer neighbours".
+pub data Near (x y a b : ℕ) : Type 0 where
+  east : a ≡ x + 1 → b ≡ y → Near x y a b
+  west : a + 1 ≡ x → b ≡ y → Near x y a b
+  north : a ≡ x → b ≡ y + 1 → Near x y a b
+  south : a ≡ x → b + 1 ≡ y → Near x y a b
+
+-- (a, b) and (c, d) are two crossings, and not one.
+abbrev pub Apart : ℕ → ℕ → ℕ → ℕ → Type 0
+Apart a b c d = ((a ≡ c) × (b ≡ d)) → ⊥
+
+-- The offset along one axis, and "their distance: east-west plus north-south offset".
+unfoldable pub gap : ℕ → ℕ → ℕ
+gap a b = (a - b) + (b - a)
+
+abbrev pub dist : ℕ → ℕ → ℕ → ℕ → ℕ
+dist x y a b = gap x a + gap y b
+
+-- A set of crossings that has none off the map.
+abbrev pub OnMap : ℕ → ℕ → (ℕ → ℕ → Type 0) → Type 0
+OnMap w h C = (x y : ℕ) → C x y → On w h x y

@@ -1,0 +1,10 @@
+// The field: what document 01 defines, as meanings that a reader must believe and workings that compute. The definitions stand in specs/;
+// this file has only what code and definitions share.
+
+// A rock marker: a sixteen-bit id and the crossing on which it stands, laid out for C.
+#[repr(C)]
+pub struct Marker {
+    pub id: u16,
+    pub x: u16,
+    pub y: u16,
+}
