@@ -1,4 +1,4 @@
--- Single hops homeward, and sequences of them. C tells the closed crossings, (hx, hy) is home.
+-- Single hops homeward, their answer, and sequences of them. C tells the closed crossings, (hx, hy) is home.
 use mathlib.Core.Path.{_≡_}
 use Prim.Native.Nat.{ℕ, _+_}
 use Rattle.field.specs.Map.{Near, dist}
@@ -14,9 +14,19 @@ pub record Permitted (w h : ℕ) (C : ℕ → ℕ → Type 0) (hx hy x y a b : �
 abbrev pub There : ℕ → ℕ → ℕ → ℕ → Type 0
 There hx hy x y = (x ≡ hx) × (y ≡ hy)
 
--- An east-west hop keeps the row.
-abbrev pub EastWest : ℕ → ℕ → ℕ → ℕ → Type 0
-EastWest x y a b = b ≡ y
+-- What a hop call may answer: "there", one crossing, or two.
+pub data HopAnswer : Type 0 where
+  there : HopAnswer
+  one : ℕ → ℕ → HopAnswer
+  two : ℕ → ℕ → ℕ → ℕ → HopAnswer
+
+-- "The answer names every permitted hop, the east-west one first." An east-west hop keeps the row, a north-south one the column.
+pub data Answers (w h : ℕ) (C : ℕ → ℕ → Type 0) (hx hy x y : ℕ) (r : HopAnswer) : Type 0 where
+  at-home : There hx hy x y → r ≡ there → Answers w h C hx hy x y r
+  just : (a b : ℕ) → Permitted w h C hx hy x y a b → ((c d : ℕ) → Permitted w h C hx hy x y c d → (c ≡ a) × (d ≡ b))
+      → r ≡ one a b → Answers w h C hx hy x y r
+  both : (a b c d : ℕ) → Permitted w h C hx hy x y a b → b ≡ y → Permitted w h C hx hy x y c d → c ≡ x
+      → r ≡ two a b c d → Answers w h C hx hy x y r
 
 -- n permitted hops, one after the other, lead from (x, y) to (a, b).
 pub data Taken (w h : ℕ) (C : ℕ → ℕ → Type 0) (hx hy x y : ℕ) : ℕ → ℕ → ℕ → Type 0 where

@@ -7,3 +7,7 @@ pub mod Distances
 pub mod Hops
 pub mod Drives
 pub mod Chooser
+pub mod Sheet
+pub mod Marks
+pub mod Looking
+pub mod Reaching
