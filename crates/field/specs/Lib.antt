@@ -9,5 +9,9 @@ pub mod Drives
 pub mod Chooser
 pub mod Sheet
 pub mod Marks
+pub mod Closing
+pub mod Stamping
+pub mod Labelling
+pub mod Counting
 pub mod Looking
 pub mod Reaching
