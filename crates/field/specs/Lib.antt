@@ -13,5 +13,6 @@ pub mod Closing
 pub mod Stamping
 pub mod Labelling
 pub mod Counting
+pub mod Table
 pub mod Looking
 pub mod Reaching
