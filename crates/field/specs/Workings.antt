@@ -1,4 +1,5 @@
 -- Workings: functions on sheets that compute what document 01 defines, each with the theorem, both ways, that it agrees with the meaning.
+pub mod Tests
 pub mod Sheet
 pub mod Marks
 pub mod Closing
@@ -6,4 +7,9 @@ pub mod Stamping
 pub mod Labelling
 pub mod Counting
 pub mod Looking
+pub mod ClearLaws
+pub mod DistanceLaws
+pub mod AssuredLaws
+pub mod HopLaws
+pub mod AnswerLaws
 pub mod Reaching
