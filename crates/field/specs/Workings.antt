@@ -12,4 +12,10 @@ pub mod DistanceLaws
 pub mod AssuredLaws
 pub mod HopLaws
 pub mod AnswerLaws
+pub mod GridLaws
+pub mod DriveLaws
+pub mod RegionLaws
 pub mod Reaching
+pub mod ReachLaws
+pub mod ChooserLaws
+pub mod ChoosingLaws
