@@ -11,3 +11,4 @@ pub mod Chooser
 pub mod Workings
 pub mod Geometry
 pub mod Table
+pub mod Settled

@@ -6,6 +6,8 @@ pub mod Closing
 pub mod Stamping
 pub mod Labelling
 pub mod Counting
+pub mod Corners
+pub mod RowTests
 pub mod Looking
 pub mod ClearLaws
 pub mod DistanceLaws

@@ -1,12 +1,13 @@
 -- Working: how many crossings a sheet marks; and that this is how many there are of what it draws, however that is decided.
 use mathlib.Core.Path.{_≡_, refl, sym, _∙_}
+use mathlib.Core.Bool.{Bool, true, false, false≢true}
 use mathlib.Core.List.{List}
 use mathlib.Core.Logic.{_↔_}
 use Prim.Native.Nat.{ℕ, zero, suc, _+_, _<_}
 use native.Mathlib.Omega.{arith}
 use Rattle.field.specs.Map.{On}
 use Rattle.field.specs.Labels.{sumTo, one, count, Count}
-use Rattle.field.specs.Workings.Sheet.{Draws, lit}
+use Rattle.field.specs.Workings.Sheet.{Draws, bit, lit}
 use Rattle.field.specs.Workings.Marks.{drawn-dec, drawn-lit, undrawn-lit}
 
 -- The sum of f over the map.
@@ -59,3 +60,14 @@ module _ {w h : ℕ} {P Q : ℕ → ℕ → Type 0} (s : Same w h P Q) where
 
 pub count-one : (w h : ℕ) {P : ℕ → ℕ → Type 0} {n m : ℕ} → Count w h P n → Count w h P m → n ≡ m
 count-one w h = count-same {w = w} {h = h} (λ x y o. (λ p. p, λ p. p))
+
+-- What a test tells of each crossing of the map is counted by the test.
+pub count-tests : (w h : ℕ) (P : ℕ → ℕ → Type 0) (f : ℕ → ℕ → Bool) → ((x y : ℕ) → On w h x y → (P x y ↔ f x y ≡ true))
+    → ((x y : ℕ) → Dec (P x y)) → Count w h P (tally w h (λ x y. bit (f x y)))
+count-tests w h P f t d = (d, sym (count-tally w h P d (λ x y. bit (f x y)) (λ x y p q. each (d x y) (t x y (record { in-x = p; in-y = q })))))
+  where
+    each : {Q : Type 0} {b : Bool} (e : Dec Q) → (Q ↔ b ≡ true) → one e ≡ bit b
+    each {b = true} (yes q) k = refl
+    each {b = false} (yes q) k = absurd (false≢true (k .0 q))
+    each {b = true} (no n) k = absurd (n (k .1 refl))
+    each {b = false} (no n) k = refl
