@@ -2,3 +2,5 @@
 pub mod List
 pub mod Reached
 pub mod Promise
+pub mod Slots
+pub mod Laws

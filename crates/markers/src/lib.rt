@@ -6,6 +6,7 @@ ghost use mathlib.Core.Logic.{_↔_};
 ghost use Prim.Native.Nat.{ℕ, _+_, _*_, _<_, _≤_};
 ghost use lib.ListN.{length, getD};
 ghost use Rattle.markers.specs.List.{WellFormed, InUse, Entered, Cleared};
+ghost use Rattle.markers.specs.Slots.{IdsRise, PlaceOf, MayOpen, SlotOpened, MayClose, SlotClosed, Wiped};
 ghost use Rattle.markers.specs.Promise.{listOf, marker, Parallel, MayEnter, MayClear, MayStamp, StampedWith, Enters, Clears};
 
 // Whether the list is well formed on a map of this width and height: count within its limits, ids from 1 rising, every marker on the map.
@@ -38,7 +39,10 @@ pub fn well_formed(ids: &[u16], xs: &[u16], ys: &[u16], count: usize, w: usize, 
 }
 
 // Where the id stands or belongs: how many ids in use are below it.
-pub fn place_of(ids: &[u16], count: usize, id: u16) -> usize {
+pub fn place_of(ids: &[u16], count: usize, id: u16) -> usize
+    requires { ⌜ IdsRise (now ids) count ⌝ }
+    ensures { λ r. ⌜ PlaceOf (now (ids .entry)) count id r ⌝ }
+{
     let mut lo = 0;
     let mut hi = count;
     while lo < hi {
@@ -53,7 +57,10 @@ pub fn place_of(ids: &[u16], count: usize, id: u16) -> usize {
 }
 
 // Moves what stands from `place` on, up to the count, up by one, and puts v there.
-fn open_slot(s: &mut [u16], count: usize, place: usize, v: u16) {
+fn open_slot(s: &mut [u16], count: usize, place: usize, v: u16)
+    requires { ⌜ MayOpen (now s) count place ⌝ }
+    ensures { λ _. ⌜ SlotOpened (now (s .entry)) count place v (now (s .exit)) ⌝ }
+{
     let mut k = count;
     while place < k {
         s[k] = s[k - 1];
@@ -63,7 +70,10 @@ fn open_slot(s: &mut [u16], count: usize, place: usize, v: u16) {
 }
 
 // Moves what stands after `place`, up to the count, down by one, and sets the slot so freed to zero.
-fn close_slot(s: &mut [u16], count: usize, place: usize) {
+fn close_slot(s: &mut [u16], count: usize, place: usize)
+    requires { ⌜ MayClose (now s) count place ⌝ }
+    ensures { λ _. ⌜ SlotClosed (now (s .entry)) count place (now (s .exit)) ⌝ }
+{
     let mut k = place;
     while k + 1 < count {
         s[k] = s[k + 1];
@@ -81,7 +91,10 @@ pub fn enter(
     id: u16,
     x: u16,
     y: u16,
-) -> usize {
+) -> usize
+    requires { ⌜ MayEnter (now ids) (now xs) (now ys) count id ⌝ }
+    ensures { λ r. ⌜ Enters (now (ids .entry)) (now (xs .entry)) (now (ys .entry)) count (marker id x y) (now (ids .exit)) (now (xs .exit)) (now (ys .exit)) r ⌝ }
+{
     let place = place_of(ids, count, id);
     open_slot(ids, count, place, id);
     open_slot(xs, count, place, x);
@@ -102,7 +115,9 @@ pub fn clear(ids: &mut [u16], xs: &mut [u16], ys: &mut [u16], count: usize, id: 
 }
 
 // Sets every byte of the sheet to 0.
-fn wipe(sheet: &mut [u8]) {
+fn wipe(sheet: &mut [u8])
+    ensures { λ _. ⌜ Wiped (now (sheet .entry)) (now (sheet .exit)) ⌝ }
+{
     let mut i = 0;
     while i < sheet.len() {
         sheet[i] = 0;

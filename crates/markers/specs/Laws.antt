@@ -1,0 +1,3 @@
+-- Laws of the marker list. Those of lists of markers speak of no slice: they hold however the list is lent.
+pub mod Rising
+pub mod Slices
