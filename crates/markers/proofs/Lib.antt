@@ -3,3 +3,5 @@ mod Opening
 mod Closing
 mod Placing
 mod Wiping
+mod Forming
+mod Stamping

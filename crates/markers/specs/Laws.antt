@@ -1,3 +1,4 @@
 -- Laws of the marker list. Those of lists of markers speak of no slice: they hold however the list is lent.
 pub mod Rising
 pub mod Slices
+pub mod Rocks

@@ -9,12 +9,15 @@ ghost use Rattle.markers.specs.List.{WellFormed, InUse, Entered, Cleared
 ghost use Rattle.markers.specs.Slots.{IdsRise, PlaceOf, MayOpen, SlotOpened, MayClose, SlotClosed, Wiped};
 ghost use Rattle.markers.specs.Promise.{listOf, marker, Parallel, MayEnter, MayClear, MayStamp, StampedWith, Enters, Clears};
 
+// "At most 4,096 are in use."
+const MOST_MARKERS: usize = 4096;
+
 // Whether the list is well formed on a map of this width and height: count within its limits, ids from 1 rising, every marker on the map.
 pub fn well_formed(ids: &[u16], xs: &[u16], ys: &[u16], count: usize, w: usize, h: usize) -> bool
     requires { ⌜ Parallel (now ids) (now xs) (now ys) ⌝ }
     ensures { λ r. ⌜ ((r ≡ true) ↔ WellFormed w h (listOf (now (ids .entry)) (now (xs .entry)) (now (ys .entry))) count) ⌝ }
 {
-    if 4096 < count {
+    if MOST_MARKERS < count {
         return false;
     }
     if ids.len() < count {
@@ -26,14 +29,14 @@ pub fn well_formed(ids: &[u16], xs: &[u16], ys: &[u16], count: usize, w: usize, 
         if ids[k] <= last {
             return false;
         }
-        if (xs[k] as usize) < w {
-            if (ys[k] as usize) < h {
-                last = ids[k];
-                k += 1;
-                continue;
-            }
+        if w <= xs[k] as usize {
+            return false;
         }
-        return false;
+        if h <= ys[k] as usize {
+            return false;
+        }
+        last = ids[k];
+        k += 1;
     }
     true
 }

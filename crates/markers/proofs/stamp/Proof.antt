@@ -1,78 +1,83 @@
+-- `stamp` meets its contract: the loop keeps Stamping, and every marker's number lies within the sheet, which has one byte a crossing.
+use Prim.Native.Nat.{_-_, _≤_}
+use native.Mathlib.Omega.{arith}
+use Rattle.field.specs.Workings.Sheet.{number-lt}
+use Rattle.markers.proofs.Stamping.{Stamping, stamping-start, stamping-more, stamping-end}
 use Rattle.markers.proofs.stamp.Statement.{statement}
 use Rattle.markers.proofs.stamp.Tie as tie
 use Rattle.markers.proofs.stamp.Reads as reads
 use Rattle.markers.proofs.stamp.Lts as lts
-use Rattle.markers.proofs.wipe.Reads as wipe-reads
+
+-- `stamp` meets its contract: the loop keeps Stamping, and every marker's number lies within the sheet, which has one byte a crossing.
 
 abbrev Inv-loop : tie.InvT-loop
-Inv-loop xs ys count w h sheet₀ k₀ sheet k = ?
+Inv-loop xs ys count w h sheet₀ k₀ sheet k = Stamping w h xs ys k sheet × (k ≤ count)
 
 abbrev μ-loop : tie.MeasureT-loop
-μ-loop xs ys count w h sheet₀ k₀ sheet k = ?
+μ-loop xs ys count w h sheet₀ k₀ sheet k = count - k
 
--- src/lib.rt:133:5
 wipe-requires : tie.Need-wipe-requires Inv-loop μ-loop
-wipe-requires c κs = ?
+wipe-requires c κs = tt
 
--- src/lib.rt:135:5
 loop-holds : tie.Need-loop-holds Inv-loop μ-loop
-loop-holds c = ?
+loop-holds c = (stamping-start _ _ _ _ _ _ (c .before .before .before .before .before .before .before .pre .size) (c .before .before .wipe .ensures), omega arith)
 
--- src/lib.rt:136:16
 mul-sheet : tie.Need-mul-sheet Inv-loop μ-loop
-mul-sheet c = ?
+mul-sheet c = omega arith
 
--- src/lib.rt:136:16
 shared-slice-read-sheet : tie.Need-shared-slice-read-sheet Inv-loop μ-loop
-shared-slice-read-sheet c = ?
+shared-slice-read-sheet c = omega arith
 
--- src/lib.rt:136:16
 cast-sheet : tie.Need-cast-sheet Inv-loop μ-loop
-cast-sheet c = ?
+cast-sheet c = omega (arith, c .shared-slice-known3 .given (c .before .before .loop .k))
 
--- src/lib.rt:136:15
 mul-sheet-2 : tie.Need-mul-sheet-2 Inv-loop μ-loop
-mul-sheet-2 c = ?
+mul-sheet-2 c = 
+    let l = c .before .before in
+    let s = l .before .before .before .before .before .before .before .before in
+    omega (arith, number-lt _ _ _ _ (s .pre .on (l .loop .k) (omega arith)))
 
--- src/lib.rt:136:39
 mul-sheet-3 : tie.Need-mul-sheet-3 Inv-loop μ-loop
-mul-sheet-3 c = ?
+mul-sheet-3 c = omega arith
 
--- src/lib.rt:136:39
 shared-slice-read-sheet-2 : tie.Need-shared-slice-read-sheet-2 Inv-loop μ-loop
-shared-slice-read-sheet-2 c = ?
+shared-slice-read-sheet-2 c = omega arith
 
--- src/lib.rt:136:39
 cast-sheet-2 : tie.Need-cast-sheet-2 Inv-loop μ-loop
-cast-sheet-2 c = ?
+cast-sheet-2 c = omega (arith, c .shared-slice-known4 .given (c .before .before .before .loop .k))
 
--- src/lib.rt:136:15
 add-sheet : tie.Need-add-sheet Inv-loop μ-loop
-add-sheet c = ?
+add-sheet c = 
+    let l = c .before .before .before in
+    let s = l .before .before .before .before .before .before .before .before in
+    omega (arith, number-lt _ _ _ _ (s .pre .on (l .loop .k) (omega arith)))
 
--- src/lib.rt:136:9
 slice-write-sheet : tie.Need-slice-write-sheet Inv-loop μ-loop
-slice-write-sheet c = ?
+slice-write-sheet c = 
+    let l = c .before .before .before in
+    let s = l .before .before .before .before .before .before .before .before in
+    omega (arith, number-lt _ _ _ _ (s .pre .on (l .loop .k) (omega arith)))
 
--- src/lib.rt:137:9
 add-k : tie.Need-add-k Inv-loop μ-loop
-add-k c = ?
+add-k c = omega arith
 
--- src/lib.rt:135:5
 loop-less : tie.Need-loop-less Inv-loop μ-loop
-loop-less c = ?
+loop-less c = omega arith
 
--- src/lib.rt:135:5
 loop-again : tie.Need-loop-again Inv-loop μ-loop
-loop-again c = ?
+loop-again c = 
+    let l = c .before .before .before in
+    let s = l .before .before .before .before .before .before .before .before in
+    (stamping-more (s .pre .on (l .loop .k) (omega arith)) (l .loop .inv .0), omega arith)
 
--- src/lib.rt:129:1
 same-length : tie.Need-same-length Inv-loop μ-loop
-same-length c = ?
+same-length c = omega arith
 
--- src/lib.rt:129:1
 returns : tie.Need-returns Inv-loop μ-loop
-returns c = ?
+returns c = 
+    let l = c .before in
+    let s = l .before .before .before .before .before .before .before .before in
+    stamping-end (s .pre .lent-xs) (s .pre .on) (omega arith) (l .loop .inv .0)
 
 pub stamp-spec : {M : Type 1} → statement M
 stamp-spec =
