@@ -2,3 +2,7 @@
 pub mod Rising
 pub mod Slices
 pub mod Rocks
+pub mod Moves
+pub mod Formed
+pub mod Times
+pub mod Reached
