@@ -6,3 +6,6 @@ pub mod Moves
 pub mod Formed
 pub mod Times
 pub mod Reached
+pub mod Making
+pub mod Entering
+pub mod Clearing

@@ -6,11 +6,13 @@ use Prim.Native.Nat.{ℕ, zero, suc, _+_, _<_, _≤_}
 use native.Mathlib.Omega.{arith}
 use native.Mathlib.Numerals.{add-one}
 use native.Mathlib.Decide.{ℕ-discrete}
-use lib.ListN.{length, getD, take}
+use lib.ListN.{length, getD, take, length-take}
 use lib.Seq.{length-take-le, getD-take, ext-getD}
 use Rattle.field.specs.declared.Marker.{Marker}
 use Rattle.field.specs.Labels.{blank}
-use Rattle.markers.specs.List.{slot, Entered, Cleared, inUse, Same, Times, none, here, other}
+use Rattle.markers.specs.List.{slot, InUse, Entered, Cleared, inUse, Same, Times, none, here, other}
+use Rattle.markers.specs.Laws.Rising.{Rises, rises-one}
+use Rattle.markers.specs.Laws.Moves.{cleared-from}
 
 same-itself : (m : Marker) → Same m m
 same-itself m = record { id = refl; x = refl; y = refl }
@@ -39,6 +41,11 @@ times-one (here a p e) (here b q f) = let z = times-one p q in omega arith
 times-one (here a p e) (other b q) = absurd (b a)
 times-one (other a p) (here b q f) = absurd (a b)
 times-one (other a p) (other b q) = times-one p q
+
+-- A marker that no slot holds stands there no time.
+times-absent : (m : Marker) (list : List Marker) → ((k : ℕ) → k < length list → ¬ Same (slot list k) m) → Times m list 0
+times-absent m [] f = none
+times-absent m (k ∷ ks) f = other (f 0 (omega arith)) (times-absent m ks (λ j l. f (suc j) (omega arith)))
 
 -- The second list is the first with m put in at one place.
 pub data Added (m : Marker) : List Marker → List Marker → Type 0 where
@@ -121,6 +128,15 @@ module _ {list after : List Marker} {count : ℕ} {m : Marker} (room : count < l
   pub entered-itself : {t : ℕ} → Times m (inUse list count) t → Times m (inUse after (count + 1)) (t + 1)
   entered-itself p = added-itself (entered-added room e) p
 
+  -- Its id was not in use: so it stands there once.
+  pub entered-once : ¬ InUse list count (m .id) → Times m (inUse after (count + 1)) 1
+  entered-once new = entered-itself (times-absent m (inUse list count) absent)
+    where
+      absent : (k : ℕ) → k < length (inUse list count) → ¬ Same (slot (inUse list count) k) m
+      absent k l s =
+          let b : k < count = omega (arith, l, length-take count list) in
+          new (record { place = k; below = b; is = sym (ap (λ (n : Marker). n .id) (getD-take count list k blank b)) ∙ s .id })
+
 -- The marker cleared stood in the list once more than it stands there after, and every other one as often as after.
 module _ {list after : List Marker} {count id : ℕ} (next : ℕ) (lent : count ≤ length list) (c : Cleared list count id after) (n : next + 1 ≡ count) where
   pub cleared-other : {m : Marker} {t : ℕ} → ¬ Same (slot list (c .place)) m → Times m (inUse list count) t → Times m (inUse after next) t
@@ -130,3 +146,15 @@ module _ {list after : List Marker} {count id : ℕ} (next : ℕ) (lent : count 
 
   pub cleared-itself : {t : ℕ} → Times (slot list (c .place)) (inUse after next) t → Times (slot list (c .place)) (inUse list count) (t + 1)
   cleared-itself p = added-itself (cleared-added next lent c n) p
+
+  -- No other marker bears its id: so none with that id is left.
+  pub cleared-gone : Rises (λ k. slot list k .id) count → (m : Marker) → m .id ≡ id → Times m (inUse after next) 0
+  cleared-gone r m e = times-absent m (inUse after next) absent
+    where
+      absent : (k : ℕ) → k < length (inUse after next) → ¬ Same (slot (inUse after next) k) m
+      absent k l s =
+          let b : k < next = omega (arith, l, length-take next after) in
+          let o = cleared-from c n k b in
+          let i : slot list (o .place) .id ≡ slot list (c .place) .id =
+                ap (λ (j : Marker). j .id) (o .is ∙ sym (getD-take next after k blank b)) ∙ s .id ∙ e ∙ sym (c .is) in
+          o .other (rises-one (λ k. slot list k .id) count r (o .place) (c .place) (o .below) (c .below) i)
