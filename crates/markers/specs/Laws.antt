@@ -9,3 +9,4 @@ pub mod Reached
 pub mod Making
 pub mod Entering
 pub mod Clearing
+pub mod Promises

@@ -9,8 +9,8 @@ use lib.ListN.{length, List·getD-eq-default}
 use lib.Seq.{ext-getD}
 use Rattle.field.specs.declared.Marker.{Marker}
 use Rattle.field.specs.Labels.{blank}
-use Rattle.markers.specs.List.{slot, WellFormed, InUse, Cleared}
-use Rattle.markers.specs.Laws.Rising.{rises-one}
+use Rattle.markers.specs.List.{slot, InUse, Cleared}
+use Rattle.markers.specs.Laws.Rising.{RisingIds, id-one}
 use Rattle.markers.specs.Laws.Making.{slots, slots-size, slots-at, pick, pick-yes, pick-no}
 
 -- What clearing leaves in slot k: below the place and past the count what stood there, in the slot freed zeros, between them what stood one above.
@@ -44,13 +44,13 @@ cleared-slot {list} {after} {count} {id} c k = go (decLt k (c .place)) (decLt (k
     go (no p) (no q) (yes r) = c .freed k (omega arith) ∙ sym (slot-freed list count (c .place) k (c .below) (omega arith))
     go (no p) (no q) (no r) = c .rest k (omega arith) ∙ sym (slot-past list count (c .place) k (c .below) (omega arith))
 
-pub cleared-one : (w h : ℕ) {list a b : List Marker} {count id : ℕ} → WellFormed w h list count → Cleared list count id a → Cleared list count id b → a ≡ b
-cleared-one w h {list} {a} {b} {count} {id} f p q =
+pub cleared-one : {list a b : List Marker} {count id : ℕ} → RisingIds list count → Cleared list count id a → Cleared list count id b → a ≡ b
+cleared-one {list} {a} {b} {count} {id} r p q =
     ext-getD blank a b (p .size ∙ sym (q .size))
     (λ k l. cleared-slot p k ∙ ap (λ (i : ℕ). clearedSlot list count i k) same ∙ sym (cleared-slot q k))
   where
     same : p .place ≡ q .place
-    same = rises-one (λ k. slot list k .id) count (f .rising) (p .place) (q .place) (p .below) (q .below) (p .is ∙ sym (q .is))
+    same = id-one list count r (p .place) (q .place) (p .below) (q .below) (p .is ∙ sym (q .is))
 
 pub cleared-some : {list : List Marker} {count id : ℕ} → count ≤ length list → InUse list count id → (after : List Marker) × Cleared list count id after
 cleared-some {list} {count} {id} lent u = (after, made)

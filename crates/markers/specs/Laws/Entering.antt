@@ -9,8 +9,8 @@ use lib.ListN.{length, List·getD-eq-default}
 use lib.Seq.{ext-getD}
 use Rattle.field.specs.declared.Marker.{Marker}
 use Rattle.field.specs.Labels.{blank}
-use Rattle.markers.specs.List.{slot, WellFormed, InUse, Entered}
-use Rattle.markers.specs.Laws.Rising.{rises-lt}
+use Rattle.markers.specs.List.{slot, InUse, Entered}
+use Rattle.markers.specs.Laws.Rising.{RisingIds, rises-lt}
 use Rattle.markers.specs.Laws.Moves.{entered-above}
 use Rattle.markers.specs.Laws.Making.{slots, slots-size, slots-at, pick, pick-yes, pick-no}
 
@@ -69,21 +69,21 @@ record Belongs (list : List Marker) (count id : ℕ) : Type 0 where
   lower : (k : ℕ) → k < place → slot list k .id < id
   higher : (k : ℕ) → place ≤ k → k < count → id < slot list k .id
 
-belongs : (w h : ℕ) (list : List Marker) (count id : ℕ) → WellFormed w h list count → ¬ InUse list count id → (n : ℕ) → n ≤ count → Belongs list n id
-belongs w h list count id f new zero l =
+belongs : (list : List Marker) (count id : ℕ) → RisingIds list count → ¬ InUse list count id → (n : ℕ) → n ≤ count → Belongs list n id
+belongs list count id r new zero l =
     record { place = 0; within = omega arith; lower = λ k m. absurd (omega arith); higher = λ k m n. absurd (omega arith) }
-belongs w h list count id f new (suc n) l = go (decLt (slot list n .id) id) (belongs w h list count id f new n (omega arith))
+belongs list count id r new (suc n) l = go (decLt (slot list n .id) id) (belongs list count id r new n (omega arith))
   where
     fresh : (k : ℕ) → k < count → ¬ (slot list k .id ≡ id)
     fresh k m e = new (record { place = k; below = m; is = e })
 
     under : (k : ℕ) → k < suc n → slot list n .id < id → Dec (k < n) → slot list k .id < id
-    under k m p (yes q) = omega (arith, rises-lt (λ j. slot list j .id) count (f .rising) k n q l)
+    under k m p (yes q) = omega (arith, rises-lt (λ j. slot list j .id) count r k n q l)
     under k m p (no q) = let e : k ≡ n = omega arith in omega (arith, ap (λ (j : ℕ). slot list j .id) e)
 
     over : (b : Belongs list n id) (k : ℕ) → b .place ≤ k → k < suc n → id ≤ slot list n .id → Dec (k < n) → id < slot list k .id
-    over b k m r p (yes q) = b .higher k m q
-    over b k m r p (no q) = let e : k ≡ n = omega arith in omega (arith, ap (λ (j : ℕ). slot list j .id) e, fresh n l)
+    over b k m u p (yes q) = b .higher k m q
+    over b k m u p (no q) = let e : k ≡ n = omega arith in omega (arith, ap (λ (j : ℕ). slot list j .id) e, fresh n l)
 
     go : Dec (slot list n .id < id) → Belongs list n id → Belongs list (suc n) id
     go (yes p) b =
@@ -91,22 +91,22 @@ belongs w h list count id f new (suc n) l = go (decLt (slot list n .id) id) (bel
           place = suc n;
           within = omega arith;
           lower = λ k m. under k m p (decLt k n);
-          higher = λ k m r. absurd (omega arith);
+          higher = λ k m u. absurd (omega arith);
         }
     go (no p) b =
         record {
           place = b .place;
           within = omega (arith, b .within);
           lower = b .lower;
-          higher = λ k m r. over b k m r (omega arith) (decLt k n);
+          higher = λ k m u. over b k m u (omega arith) (decLt k n);
         }
 
-pub entered-some : (w h : ℕ) {list : List Marker} {count : ℕ} (m : Marker) → WellFormed w h list count → ¬ InUse list count (m .id)
+pub entered-some : {list : List Marker} {count : ℕ} (m : Marker) → RisingIds list count → ¬ InUse list count (m .id)
     → count < length list → (after : List Marker) × Entered list count m after
-entered-some w h {list} {count} m f new room = (after, made)
+entered-some {list} {count} m r new room = (after, made)
   where
     b : Belongs list count (m .id)
-    b = belongs w h list count (m .id) f new count (omega arith)
+    b = belongs list count (m .id) r new count (omega arith)
 
     from : ℕ → Marker
     from = enteredSlot list count m (b .place)

@@ -1,13 +1,19 @@
--- Numbers that rise from each place to the next, up to a count, rise over every stretch: so a number stands in one place only.
+-- Numbers that rise from each place to the next, up to a count, rise over every stretch: so a number, an id, stands in one place only.
 use mathlib.Core.Path.{_≡_, ap}
-use mathlib.Core.Logic.{_⊎_, ⊎-elim}
+use mathlib.Core.List.{List}
 use Prim.Native.Nat.{ℕ, zero, suc, _+_, _-_, _<_, _≤_}
 use native.Mathlib.Omega.{arith}
 use native.Mathlib.Decide.{decLt}
+use Rattle.field.specs.declared.Marker.{Marker}
+use Rattle.markers.specs.List.{slot}
 
 -- f rises from each place to the next, up to the count.
 abbrev pub Rises : (ℕ → ℕ) → ℕ → Type 0
 Rises f count = (k : ℕ) → k + 1 < count → f k < f (k + 1)
+
+-- The ids in use rise, as in every well-formed list.
+abbrev pub RisingIds : List Marker → ℕ → Type 0
+RisingIds list count = Rises (λ k. slot list k .id) count
 
 module _ (f : ℕ → ℕ) (count : ℕ) (r : Rises f count) where
   stretch : (j d : ℕ) → j + d + 1 < count → f j < f (j + d + 1)
@@ -41,3 +47,7 @@ module _ (f : ℕ → ℕ) (count : ℕ) (r : Rises f count) where
       go (yes p) q = absurd (omega (arith, rises-lt j k p m))
       go (no p) (yes q) = absurd (omega (arith, rises-lt k j q l))
       go (no p) (no q) = omega arith
+
+-- An id in use stands in one slot only.
+pub id-one : (list : List Marker) (count : ℕ) → RisingIds list count → (j k : ℕ) → j < count → k < count → slot list j .id ≡ slot list k .id → j ≡ k
+id-one list count r j k l m e = rises-one (λ k. slot list k .id) count r j k l m e

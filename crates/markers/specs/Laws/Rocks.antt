@@ -11,7 +11,7 @@ use lib.Seq.{getD-take}
 use Rattle.field.specs.declared.Marker.{Marker}
 use Rattle.field.specs.Labels.{Rock, blank}
 use Rattle.markers.specs.List.{slot, WellFormed, Entered, Cleared, inUse}
-use Rattle.markers.specs.Laws.Rising.{Rises, rises-one}
+use Rattle.markers.specs.Laws.Rising.{RisingIds, id-one}
 use Rattle.markers.specs.Laws.Moves.{SlotOf, entered-from, entered-to, entered-there, OtherOf, cleared-from, cleared-to}
 
 -- A marker in use stands on (x, y).
@@ -91,7 +91,7 @@ module _ {list after : List Marker} {count id : ℕ} (next x y : ℕ) (lent : co
       apart q = s .other (ap (λ (k : ℕ). slot list k .id) q ∙ c .is)
 
   -- Every rock after clearing has a marker of another id on it, since ids rise and no other marker bears the one cleared.
-  pub rock-clear-from : Rises (λ k. slot list k .id) count → Rock (inUse after next) x y → OtherStands list count id x y
+  pub rock-clear-from : RisingIds list count → Rock (inUse after next) x y → OtherStands list count id x y
   rock-clear-from r k = go (rock-stands after next x y k)
     where
       go : Stands after next x y → OtherStands list count id x y
@@ -100,7 +100,7 @@ module _ {list after : List Marker} {count id : ℕ} (next x y : ℕ) (lent : co
           record {
             place = o .place;
             below = o .below;
-            other = λ q. o .other (rises-one (λ k. slot list k .id) count r (o .place) (c .place) (o .below) (c .below) (q ∙ sym (c .is)));
+            other = λ q. o .other (id-one list count r (o .place) (c .place) (o .below) (c .below) (q ∙ sym (c .is)));
             x-is = ap (λ (m : Marker). m .x) (o .is) ∙ s .x-is;
             y-is = ap (λ (m : Marker). m .y) (o .is) ∙ s .y-is;
           }

@@ -11,7 +11,7 @@ use lib.Seq.{length-take-le, getD-take, ext-getD}
 use Rattle.field.specs.declared.Marker.{Marker}
 use Rattle.field.specs.Labels.{blank}
 use Rattle.markers.specs.List.{slot, InUse, Entered, Cleared, inUse, Same, Times, none, here, other}
-use Rattle.markers.specs.Laws.Rising.{Rises, rises-one}
+use Rattle.markers.specs.Laws.Rising.{RisingIds, id-one}
 use Rattle.markers.specs.Laws.Moves.{cleared-from}
 
 same-itself : (m : Marker) → Same m m
@@ -148,7 +148,7 @@ module _ {list after : List Marker} {count id : ℕ} (next : ℕ) (lent : count 
   cleared-itself p = added-itself (cleared-added next lent c n) p
 
   -- No other marker bears its id: so none with that id is left.
-  pub cleared-gone : Rises (λ k. slot list k .id) count → (m : Marker) → m .id ≡ id → Times m (inUse after next) 0
+  pub cleared-gone : RisingIds list count → (m : Marker) → m .id ≡ id → Times m (inUse after next) 0
   cleared-gone r m e = times-absent m (inUse after next) absent
     where
       absent : (k : ℕ) → k < length (inUse after next) → ¬ Same (slot (inUse after next) k) m
@@ -157,4 +157,4 @@ module _ {list after : List Marker} {count id : ℕ} (next : ℕ) (lent : count 
           let o = cleared-from c n k b in
           let i : slot list (o .place) .id ≡ slot list (c .place) .id =
                 ap (λ (j : Marker). j .id) (o .is ∙ sym (getD-take next after k blank b)) ∙ s .id ∙ e ∙ sym (c .is) in
-          o .other (rises-one (λ k. slot list k .id) count r (o .place) (c .place) (o .below) (c .below) i)
+          o .other (id-one list count r (o .place) (c .place) (o .below) (c .below) i)
