@@ -1,4 +1,4 @@
--- A sheet being stamped, marker by marker: its marks are the crossings of the markers passed, each 1 however many stand there.
+-- A sheet being stamped, marker by marker, from the count down: its marks are the crossings of the markers from k on, each 1 however many stand there.
 use mathlib.Core.Path.{_≡_, refl, sym, ap, _∙_}
 use mathlib.Core.List.{List}
 use Prim.Native.Nat.{ℕ, suc, _+_, _*_, _<_, _≤_}
@@ -30,70 +30,76 @@ number-one w h x y a b o q e = (omega (arith, ap (λ (i : ℕ). i * w) same), sa
     same : y ≡ b
     same = omega (arith, row-one w x y a b (o .in-x) e, row-one w a b x y (q .in-x) (sym e))
 
--- One of the first k markers stands on (x, y).
-pub record Passed (xs ys : List ℕ) (k x y : ℕ) : Type 0 where
+-- A marker in use, from k on, stands on (x, y).
+pub record Passed (xs ys : List ℕ) (count k x y : ℕ) : Type 0 where
   pub place : ℕ
-  pub below : place < k
+  pub from : k ≤ place
+  pub below : place < count
   pub x-is : getD xs place 0 ≡ x
   pub y-is : getD ys place 0 ≡ y
 
-pub record Stamping (w h : ℕ) (xs ys : List ℕ) (k : ℕ) (sheet : List ℕ) : Type 0 where
+pub record Stamping (w h : ℕ) (xs ys : List ℕ) (count k : ℕ) (sheet : List ℕ) : Type 0 where
+  pub upto : k ≤ count
   pub size : length sheet ≡ h * w
   pub ones : (i : ℕ) → getD sheet i 0 ≤ 1
-  pub sound : (x y : ℕ) → On w h x y → 0 < at sheet w x y → Passed xs ys k x y
-  pub complete : (j : ℕ) → j < k → 0 < at sheet w (getD xs j 0) (getD ys j 0)
+  pub sound : (x y : ℕ) → On w h x y → 0 < at sheet w x y → Passed xs ys count k x y
+  pub complete : (j : ℕ) → k ≤ j → j < count → 0 < at sheet w (getD xs j 0) (getD ys j 0)
 
-pub stamping-start : (w h : ℕ) (xs ys s t : List ℕ) → length s ≡ h * w → Wiped s t → Stamping w h xs ys 0 t
-stamping-start w h xs ys s t l v =
+pub stamping-start : (w h count : ℕ) (xs ys s t : List ℕ) → length s ≡ h * w → Wiped s t → Stamping w h xs ys count count t
+stamping-start w h count xs ys s t l v =
     record {
+      upto = omega arith;
       size = v .size ∙ l;
       ones = λ i. omega (arith, v .zeros i);
       sound = λ x y o m. absurd (omega (arith, m, v .zeros (number w x y)));
-      complete = λ j m. absurd (omega arith);
+      complete = λ j m n. absurd (omega arith);
     }
 
--- One turn stamps the k-th marker's crossing.
-pub stamping-more : {w h k : ℕ} {xs ys sheet : List ℕ} → On w h (getD xs k 0) (getD ys k 0) → Stamping w h xs ys k sheet
-    → Stamping w h xs ys (k + 1) (set sheet (number w (getD xs k 0) (getD ys k 0)) 1)
-stamping-more {w} {h} {k} {xs} {ys} {sheet} o s =
+-- One turn stamps the crossing of marker k, the one below those passed.
+pub stamping-more : {w h count n k : ℕ} {xs ys sheet : List ℕ} → k + 1 ≡ n → On w h (getD xs k 0) (getD ys k 0) → Stamping w h xs ys count n sheet
+    → Stamping w h xs ys count k (set sheet (number w (getD xs k 0) (getD ys k 0)) 1)
+stamping-more {w} {h} {count} {n} {k} {xs} {ys} {sheet} d o s =
     record {
-      size = length-set sheet n 1 ∙ s .size;
-      ones = λ i. one i (ℕ-discrete i n);
-      sound = λ x y q m. from x y q m (ℕ-discrete (number w x y) n);
-      complete = λ j m. stamped j m (ℕ-discrete (number w (getD xs j 0) (getD ys j 0)) n);
+      upto = omega (arith, s .upto);
+      size = length-set sheet i 1 ∙ s .size;
+      ones = λ j. one j (ℕ-discrete j i);
+      sound = λ x y q m. from x y q m (ℕ-discrete (number w x y) i);
+      complete = λ j m l. stamped j m l (ℕ-discrete (number w (getD xs j 0) (getD ys j 0)) i);
     }
   where
-    n : ℕ
-    n = number w (getD xs k 0) (getD ys k 0)
+    i : ℕ
+    i = number w (getD xs k 0) (getD ys k 0)
 
-    same : getD (set sheet n 1) n 0 ≡ 1
-    same = getD-set-same sheet n 1 0 (omega (arith, number-lt w h (getD xs k 0) (getD ys k 0) o, s .size))
+    same : getD (set sheet i 1) i 0 ≡ 1
+    same = getD-set-same sheet i 1 0 (omega (arith, number-lt w h (getD xs k 0) (getD ys k 0) o, s .size))
 
-    one : (i : ℕ) → Dec (i ≡ n) → getD (set sheet n 1) i 0 ≤ 1
-    one i (yes e) = omega (arith, ap (λ (j : ℕ). getD (set sheet n 1) j 0) e, same)
-    one i (no e) = omega (arith, getD-set-other sheet n i 1 0 e, s .ones i)
+    one : (j : ℕ) → Dec (j ≡ i) → getD (set sheet i 1) j 0 ≤ 1
+    one j (yes e) = omega (arith, ap (λ (p : ℕ). getD (set sheet i 1) p 0) e, same)
+    one j (no e) = omega (arith, getD-set-other sheet i j 1 0 e, s .ones j)
 
-    from : (x y : ℕ) → On w h x y → 0 < at (set sheet n 1) w x y → Dec (number w x y ≡ n) → Passed xs ys (k + 1) x y
+    from : (x y : ℕ) → On w h x y → 0 < at (set sheet i 1) w x y → Dec (number w x y ≡ i) → Passed xs ys count k x y
     from x y q m (yes e) =
         let f = number-one w h x y (getD xs k 0) (getD ys k 0) q o e in
-        record { place = k; below = omega arith; x-is = sym (f .0); y-is = sym (f .1) }
+        record { place = k; from = omega arith; below = omega (arith, s .upto); x-is = sym (f .0); y-is = sym (f .1) }
     from x y q m (no e) =
-        let f = s .sound x y q (omega (arith, m, getD-set-other sheet n (number w x y) 1 0 e)) in
-        record { place = f .place; below = omega (arith, f .below); x-is = f .x-is; y-is = f .y-is }
+        let f = s .sound x y q (omega (arith, m, getD-set-other sheet i (number w x y) 1 0 e)) in
+        record { place = f .place; from = omega (arith, f .from); below = f .below; x-is = f .x-is; y-is = f .y-is }
 
-    stamped : (j : ℕ) → j < k + 1 → Dec (number w (getD xs j 0) (getD ys j 0) ≡ n) → 0 < at (set sheet n 1) w (getD xs j 0) (getD ys j 0)
-    stamped j m (yes e) = omega (arith, ap (λ (i : ℕ). getD (set sheet n 1) i 0) e, same)
-    stamped j m (no e) =
-        omega (arith, getD-set-other sheet n (number w (getD xs j 0) (getD ys j 0)) 1 0 e, s .complete j (before j m (ℕ-discrete j k) e))
-      where
-        before : (i : ℕ) → i < k + 1 → Dec (i ≡ k) → ¬ (number w (getD xs i 0) (getD ys i 0) ≡ n) → i < k
-        before i l (yes d) f = absurd (f (ap (λ (t : ℕ). number w (getD xs t 0) (getD ys t 0)) d))
-        before i l (no d) f = omega arith
+    -- A marker whose crossing is not the one stamped is not the one passed now.
+    before : (j : ℕ) → k ≤ j → ¬ (number w (getD xs j 0) (getD ys j 0) ≡ i) → Dec (j ≡ k) → n ≤ j
+    before j l f (yes e) = absurd (f (ap (λ (t : ℕ). number w (getD xs t 0) (getD ys t 0)) e))
+    before j l f (no e) = omega arith
+
+    stamped : (j : ℕ) → k ≤ j → j < count → Dec (number w (getD xs j 0) (getD ys j 0) ≡ i) → 0 < at (set sheet i 1) w (getD xs j 0) (getD ys j 0)
+    stamped j m l (yes e) = omega (arith, ap (λ (p : ℕ). getD (set sheet i 1) p 0) e, same)
+    stamped j m l (no e) =
+        omega
+        (arith, getD-set-other sheet i (number w (getD xs j 0) (getD ys j 0)) 1 0 e, s .complete j (before j m e (ℕ-discrete j k)) l)
 
 -- All markers in use passed, the sheet draws their rocks.
-pub stamping-end : {w h count k : ℕ} {xs ys sheet : List ℕ} → count ≤ length xs → ((j : ℕ) → j < count → On w h (getD xs j 0) (getD ys j 0))
-    → k ≡ count → Stamping w h xs ys k sheet → StampedWith w h xs ys count sheet
-stamping-end {w} {h} {count} {k} {xs} {ys} {sheet} lent on e s = record { size = s .size; ones = s .ones; rocks = drawn }
+pub stamping-end : {w h count k : ℕ} {xs ys sheet : List ℕ} → count ≤ length xs → k ≤ 0 → Stamping w h xs ys count k sheet
+    → StampedWith w h xs ys count sheet
+stamping-end {w} {h} {count} {k} {xs} {ys} {sheet} lent e s = record { size = s .size; ones = s .ones; rocks = drawn }
   where
     drawn : (ids : List ℕ) → Parallel ids xs ys → Draws w h (RockOn (Rock (inUse (listOf ids xs ys) count)) w h) sheet
     drawn ids p =
@@ -105,11 +111,11 @@ stamping-end {w} {h} {count} {k} {xs} {ys} {sheet} lent on e s = record { size =
         fits : count ≤ length (listOf ids xs ys)
         fits = omega (arith, listOf-length ids xs ys p, p .as-xs)
 
-        stood : (x y : ℕ) → Passed xs ys k x y → Stands (listOf ids xs ys) count x y
+        stood : (x y : ℕ) → Passed xs ys count k x y → Stands (listOf ids xs ys) count x y
         stood x y f =
             record {
               place = f .place;
-              below = omega (arith, f .below);
+              below = f .below;
               x-is = listOf-x ids xs ys p (f .place) ∙ f .x-is;
               y-is = listOf-y ids xs ys p (f .place) ∙ f .y-is;
             }
@@ -118,4 +124,4 @@ stamping-end {w} {h} {count} {k} {xs} {ys} {sheet} lent on e s = record { size =
         marked x y f =
             let a : getD xs (f .place) 0 ≡ x = sym (listOf-x ids xs ys p (f .place)) ∙ f .x-is in
             let b : getD ys (f .place) 0 ≡ y = sym (listOf-y ids xs ys p (f .place)) ∙ f .y-is in
-            rw (← a, ← b) (s .complete (f .place) (omega (arith, f .below)))
+            rw (← a, ← b) (s .complete (f .place) (omega arith) (f .below))

@@ -128,15 +128,15 @@ fn wipe(sheet: &mut [u8])
     }
 }
 
-// Stamps the rocks: 1 on each crossing with at least one marker, 0 elsewhere.
+// Stamps the rocks, from the last marker in use down to the first: 1 on each crossing with at least one marker, 0 elsewhere.
 pub fn stamp(xs: &[u16], ys: &[u16], count: usize, w: usize, h: usize, sheet: &mut [u8])
     requires { ⌜ MayStamp w h (now xs) (now ys) count (now sheet) ⌝ }
     ensures { λ _. ⌜ StampedWith w h (now (xs .entry)) (now (ys .entry)) count (now (sheet .exit)) ⌝ }
 {
     wipe(sheet);
-    let mut k = 0;
-    while k < count {
+    let mut k = count;
+    while 0 < k {
+        k -= 1;
         sheet[(ys[k] as usize) * w + (xs[k] as usize)] = 1;
-        k += 1;
     }
 }
