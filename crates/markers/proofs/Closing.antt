@@ -7,7 +7,7 @@ use native.Mathlib.Omega.{arith}
 use native.Mathlib.Decide.{ℕ-discrete}
 use lib.ListN.{length, getD, set, length-set}
 use lib.Seq.{getD-set-same, getD-set-other}
-use Rattle.markers.specs.Slots.{MayClose, SlotClosed}
+use Rattle.markers.specs.Slots.{SlotClosed}
 
 pub record Closing (s : List ℕ) (count place k : ℕ) (t : List ℕ) : Type 0 where
   pub from : place ≤ k
@@ -42,17 +42,17 @@ closing-more {s} {t} {count} {place} {k} lent l o =
         ∙ ap (λ (p : ℕ). getD s p 0) (omega arith)
     down j m n (no q) = getD-set-other t k j (getD t (k + 1) 0) 0 q ∙ o .moved j m (omega arith)
 
--- At the last of the count nothing is left to move, and the slot so freed is set to zero.
-pub closing-end : {s t : List ℕ} {count place k : ℕ} → count ≤ k + 1 → count ≤ length s → Closing s count place k t
-    → SlotClosed s count place (set t k 0)
-closing-end {s} {t} {count} {place} {k} l lent o =
+-- At the last of the count nothing is left to move, and that slot, so freed, is set to zero.
+pub closing-end : {s t : List ℕ} {count place k : ℕ} (i : ℕ) → i + 1 ≡ count → count ≤ k + 1 → count ≤ length s → Closing s count place k t
+    → SlotClosed s count place (set t i 0)
+closing-end {s} {t} {count} {place} {k} i e l lent o =
     record {
-      size = length-set t k 0 ∙ o .size;
-      before = λ j m. getD-set-other t k j 0 0 (omega (arith, o .from)) ∙ o .before j m;
-      moved = λ j m n. getD-set-other t k j 0 0 (omega arith) ∙ o .moved j m (omega arith);
-      freed = λ j e. ap (λ (p : ℕ). getD (set t k 0) p 0) (last j e) ∙ getD-set-same t k 0 0 (omega (arith, o .below, o .size));
-      rest = λ j m. getD-set-other t k j 0 0 (omega (arith, o .below)) ∙ o .kept j (omega (arith, o .below));
+      size = length-set t i 0 ∙ o .size;
+      before = λ j m. getD-set-other t i j 0 0 (omega (arith, o .from, o .below)) ∙ o .before j m;
+      moved = λ j m n. getD-set-other t i j 0 0 (omega arith) ∙ o .moved j m (omega arith);
+      freed = λ j q. ap (λ (p : ℕ). getD (set t i 0) p 0) (last j q) ∙ getD-set-same t i 0 0 (omega (arith, o .size));
+      rest = λ j m. getD-set-other t i j 0 0 (omega arith) ∙ o .kept j (omega (arith, o .below));
     }
   where
-    last : (j : ℕ) → j + 1 ≡ count → j ≡ k
-    last j e = omega (arith, o .below)
+    last : (j : ℕ) → j + 1 ≡ count → j ≡ i
+    last j q = omega arith

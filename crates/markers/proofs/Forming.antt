@@ -1,7 +1,7 @@
 -- A list being looked through, slot by slot: all markers passed are well formed, and `last` is the id of the one before, or 0 at the first. So the
 -- next id must be above `last`: that says both that no id is 0 and that ids rise.
-use mathlib.Core.Path.{_≡_, refl, sym, ap, _∙_}
-use mathlib.Core.Bool.{Bool, true, false}
+use mathlib.Core.Path.{_≡_, refl, ap}
+use mathlib.Core.Bool.{true, false}
 use mathlib.Core.List.{List}
 use mathlib.Core.Logic.{_↔_}
 use Prim.Native.Nat.{ℕ, _+_, _-_, _<_, _≤_}
@@ -9,12 +9,12 @@ use native.Mathlib.Omega.{arith}
 use native.Mathlib.Decide.{decLt, ℕ-discrete}
 use lib.ListN.{length, getD}
 use Rattle.field.specs.Map.{On, most-markers}
-use Rattle.markers.specs.List.{slot, WellFormed}
+use Rattle.markers.specs.List.{WellFormed}
 use Rattle.markers.specs.Promise.{listOf, Parallel}
 use Rattle.markers.specs.Laws.Slices.{listOf-length, listOf-id, listOf-x, listOf-y}
 
 -- The limit as the code writes it.
-limit : most-markers ≡ 4096
+pub limit : most-markers ≡ 4096
 unfolding most-markers
 limit = refl
 
@@ -36,8 +36,8 @@ module _ (ids xs ys : List ℕ) (w h count : ℕ) (p : Parallel ids xs ys) where
   abbrev Formed : Type 0
   Formed = WellFormed w h (listOf ids xs ys) count
 
-  pub too-many : 4096 < count → Formed → ⊥
-  too-many l f = omega (arith, f .few, limit)
+  pub too-many : most-markers < count → Formed → ⊥
+  too-many l f = omega (arith, f .few)
 
   pub not-lent : length ids < count → Formed → ⊥
   not-lent l f = omega (arith, f .lent, listOf-length ids xs ys p)
@@ -98,16 +98,16 @@ module _ (ids xs ys : List ℕ) (w h count : ℕ) (p : Parallel ids xs ys) where
   pub next-y : {k : ℕ} → k < count → Formed → getD ys k 0 < h
   next-y {k} l g = omega (arith, g .on k l .in-y, listOf-y ids xs ys p k)
 
-  pub forming-end : {last k : ℕ} → count ≤ k → count ≤ 4096 → count ≤ length ids → Forming ids xs ys w h count last k → Formed
+  pub forming-end : {last k : ℕ} → count ≤ k → count ≤ most-markers → count ≤ length ids → Forming ids xs ys w h count last k → Formed
   forming-end {last} {k} l few lent f =
       record {
-        few = omega (arith, limit);
+        few = few;
         lent = omega (arith, listOf-length ids xs ys p);
         some-id = λ j m. omega (arith, f .some-id j (omega arith), listOf-id ids xs ys p j);
         on = λ j m.
-          record {
-            in-x = omega (arith, f .on j (omega arith) .in-x, listOf-x ids xs ys p j);
-            in-y = omega (arith, f .on j (omega arith) .in-y, listOf-y ids xs ys p j);
-          };
+            record {
+              in-x = omega (arith, f .on j (omega arith) .in-x, listOf-x ids xs ys p j);
+              in-y = omega (arith, f .on j (omega arith) .in-y, listOf-y ids xs ys p j);
+            };
         rising = λ j m. omega (arith, f .rising j (omega arith), listOf-id ids xs ys p j, listOf-id ids xs ys p (j + 1));
       }

@@ -7,7 +7,7 @@ use native.Mathlib.Omega.{arith}
 use native.Mathlib.Decide.{ℕ-discrete}
 use lib.ListN.{length, getD, set, length-set}
 use lib.Seq.{getD-set-same, getD-set-other}
-use Rattle.markers.specs.Slots.{MayOpen, SlotOpened}
+use Rattle.markers.specs.Slots.{SlotOpened}
 
 pub record Opening (s : List ℕ) (count place k : ℕ) (t : List ℕ) : Type 0 where
   pub from : place ≤ k

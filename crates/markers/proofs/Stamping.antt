@@ -1,5 +1,6 @@
--- A sheet being stamped, marker by marker, from the count down: its marks are the crossings of the markers from k on, each 1 however many stand there.
-use mathlib.Core.Path.{_≡_, refl, sym, ap, _∙_}
+-- A sheet being stamped, marker by marker, from the count down: its marks are the crossings of the markers from k on, each 1 however many stand
+-- there.
+use mathlib.Core.Path.{_≡_, sym, ap, _∙_}
 use mathlib.Core.List.{List}
 use Prim.Native.Nat.{ℕ, suc, _+_, _*_, _<_, _≤_}
 use native.Mathlib.Omega.{arith}
@@ -9,9 +10,9 @@ use lib.ListN.{length, getD, set, length-set}
 use lib.Seq.{getD-set-same, getD-set-other}
 use Rattle.field.specs.Map.{On, number, at}
 use Rattle.field.specs.Labels.{Rock, RockOn}
-use Rattle.field.specs.Workings.Sheet.{Marked, Draws, number-lt}
-use Rattle.markers.specs.List.{slot, inUse}
-use Rattle.markers.specs.Promise.{listOf, Parallel, MayStamp, StampedWith}
+use Rattle.field.specs.Workings.Sheet.{Draws, number-lt}
+use Rattle.markers.specs.List.{inUse}
+use Rattle.markers.specs.Promise.{listOf, Parallel, StampedWith}
 use Rattle.markers.specs.Slots.{Wiped}
 use Rattle.markers.specs.Laws.Slices.{listOf-length, listOf-x, listOf-y}
 use Rattle.markers.specs.Laws.Rocks.{Stands, rock-stands, stands-rock}

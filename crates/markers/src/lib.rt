@@ -3,9 +3,7 @@
 ghost use mathlib.Core.Path.{_≡_};
 ghost use mathlib.Core.Bool.{true};
 ghost use mathlib.Core.Logic.{_↔_};
-ghost use Prim.Native.Nat.{ℕ, _+_, _*_, _<_, _≤_};
-ghost use lib.ListN.{length, getD};
-ghost use Rattle.markers.specs.List.{WellFormed, InUse, Entered, Cleared};
+ghost use Rattle.markers.specs.List.{WellFormed};
 ghost use Rattle.markers.specs.Slots.{IdsRise, PlaceOf, MayOpen, SlotOpened, MayClose, SlotClosed, Wiped};
 ghost use Rattle.markers.specs.Promise.{listOf, marker, Parallel, MayEnter, MayClear, MayStamp, StampedWith, Enters, Clears};
 
@@ -41,7 +39,7 @@ pub fn well_formed(ids: &[u16], xs: &[u16], ys: &[u16], count: usize, w: usize, 
     true
 }
 
-// Where the id stands or belongs: how many ids in use are below it.
+// Where the id stands or belongs: how many ids in use are below it. By halves, since ids rise.
 pub fn place_of(ids: &[u16], count: usize, id: u16) -> usize
     requires { ⌜ IdsRise (now ids) count ⌝ }
     ensures { λ r. ⌜ PlaceOf (now (ids .entry)) count id r ⌝ }
@@ -85,7 +83,7 @@ fn close_slot(s: &mut [u16], count: usize, place: usize)
     s[k] = 0;
 }
 
-// Enters a marker at its place by id. Hands back the new count.
+// Enters a marker at its place by id: the later ones move up by one. Hands back the new count.
 pub fn enter(
     ids: &mut [u16],
     xs: &mut [u16],
@@ -105,7 +103,7 @@ pub fn enter(
     count + 1
 }
 
-// Clears the marker with this id. Hands back the new count.
+// Clears the marker with this id: the later ones move down and the one slot so freed is set to zeros. Hands back the new count.
 pub fn clear(ids: &mut [u16], xs: &mut [u16], ys: &mut [u16], count: usize, id: u16) -> usize
     requires { ⌜ MayClear (now ids) (now xs) (now ys) count id ⌝ }
     ensures { λ r. ⌜ Clears (now (ids .entry)) (now (xs .entry)) (now (ys .entry)) count id (now (ids .exit)) (now (xs .exit)) (now (ys .exit)) r ⌝ }

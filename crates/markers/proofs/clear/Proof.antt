@@ -9,13 +9,19 @@ place-of-requires : tie.Need-place-of-requires
 place-of-requires c κs = let s = c .before .before .before .before in ids-rise _ _ _ _ (s .pre .parallel) (s .pre .rising)
 
 close-slot-requires : tie.Need-close-slot-requires
-close-slot-requires c κs = slots-may-close _ _ _ _ _ _ (c .before .before .before .before .before .before .pre) (c .before .place-of .ensures) .0
+close-slot-requires c κs =
+    let placed = c .before in
+    slots-may-close _ _ _ _ _ _ (placed .before .before .before .before .before .pre) (placed .place-of .ensures) .0
 
 close-slot-requires-2 : tie.Need-close-slot-requires-2
-close-slot-requires-2 c κs = slots-may-close _ _ _ _ _ _ (c .before .before .before .before .before .before .before .before .before .before .pre) (c .before .before .before .before .before .place-of .ensures) .1
+close-slot-requires-2 c κs =
+    let placed = c .before .before .before .before .before in
+    slots-may-close _ _ _ _ _ _ (placed .before .before .before .before .before .pre) (placed .place-of .ensures) .1
 
 close-slot-requires-3 : tie.Need-close-slot-requires-3
-close-slot-requires-3 c κs = slots-may-close _ _ _ _ _ _ (c .before .before .before .before .before .before .before .before .before .before .before .before .before .before .pre) (c .before .before .before .before .before .before .before .before .before .place-of .ensures) .2
+close-slot-requires-3 c κs =
+    let placed = c .before .before .before .before .before .before .before .before .before in
+    slots-may-close _ _ _ _ _ _ (placed .before .before .before .before .before .pre) (placed .place-of .ensures) .2
 
 sub-result : tie.Need-sub-result
 sub-result c = search needs
@@ -36,7 +42,8 @@ returns c =
     let first = second .before .before .before .before in
     let placed = first .before .before in
     let start = placed .before .before .before .before .before in
-    slots-clear _ _ _ _ _ _ _ _ _ _ (start .pre) (placed .place-of .ensures) (first .close-slot .ensures) (second .close-slot2 .ensures) (third .close-slot3 .ensures) (omega arith)
+    slots-clear _ _ _ _ _ _ _ _ _ _ (start .pre) (placed .place-of .ensures)
+    (first .close-slot .ensures) (second .close-slot2 .ensures) (third .close-slot3 .ensures) (omega arith)
 
 pub clear-spec : {M : Type 1} → statement M
 clear-spec =

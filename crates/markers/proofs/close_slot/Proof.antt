@@ -6,10 +6,6 @@ use Rattle.markers.proofs.Closing.{Closing, closing-start, closing-more
 use Rattle.markers.proofs.close_slot.Statement.{statement}
 use Rattle.markers.proofs.close_slot.Tie as tie
 
--- `close_slot` meets its contract: the loop keeps Closing, counting k up, and what is left is indices below the length.
-
--- `close_slot` meets its contract: the loop keeps Closing, counting k up, and what is left is indices below the length.
-
 abbrev Inv-loop : tie.InvT-loop
 Inv-loop s₀ count place k₀ s k = Closing s₀ count place k s
 
@@ -56,7 +52,7 @@ same-length : tie.Need-same-length Inv-loop μ-loop
 same-length c = simp length-set (omega arith)
 
 returns : tie.Need-returns Inv-loop μ-loop
-returns c = closing-end (omega arith) (c .before .before .pre .lent) (c .before .loop .inv)
+returns c = closing-end _ (omega arith) (omega arith) (c .before .before .pre .lent) (c .before .loop .inv)
 
 pub close-slot-spec : {M : Type 1} → statement M
 close-slot-spec =

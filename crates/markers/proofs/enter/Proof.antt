@@ -36,7 +36,8 @@ returns c =
     let first = second .before .before .before .before in
     let placed = first .before .before in
     let start = placed .before .before .before .before .before in
-    slots-enter _ _ _ _ _ _ _ _ _ _ _ _ (start .pre) (placed .place-of .ensures) (first .open-slot .ensures) (second .open-slot2 .ensures) (third .open-slot3 .ensures) refl
+    slots-enter _ _ _ _ _ _ _ _ _ _ _ _ (start .pre) (placed .place-of .ensures)
+    (first .open-slot .ensures) (second .open-slot2 .ensures) (third .open-slot3 .ensures) refl
 
 pub enter-spec : {M : Type 1} → statement M
 enter-spec =

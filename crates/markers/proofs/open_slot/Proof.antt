@@ -1,14 +1,9 @@
 -- `open_slot` meets its contract: the loop keeps Opening, counting k down, and what is left is indices below the length.
-use Prim.Native.Nat.{_-_}
 use native.Mathlib.Omega.{arith}
 use lib.ListN.{length-set}
 use Rattle.markers.proofs.Opening.{Opening, opening-start, opening-more, opening-end}
 use Rattle.markers.proofs.open_slot.Statement.{statement}
 use Rattle.markers.proofs.open_slot.Tie as tie
-
--- `open_slot` meets its contract: the loop keeps Opening, counting k down, and what is left is indices below the length.
-
--- `open_slot` meets its contract: the loop keeps Opening, counting k down, and what is left is indices below the length.
 
 abbrev Inv-loop : tie.InvT-loop
 Inv-loop s₀ count place v k₀ s k = Opening s₀ count place k s

@@ -1,13 +1,10 @@
 -- `well_formed` meets its contract: the loop keeps Forming; where a test fails, so does what the list would need to be well formed.
 use Prim.Native.Nat.{_-_}
 use native.Mathlib.Omega.{arith}
-use Rattle.markers.proofs.Forming.{Forming, refused, accepted, too-many, not-lent, forming-start, forming-more, next-above, next-x, next-y, forming-end}
+use Rattle.markers.proofs.Forming.{Forming, limit, refused, accepted, too-many, not-lent, next-above, next-x, next-y}
+use Rattle.markers.proofs.Forming.{forming-start, forming-more, forming-end}
 use Rattle.markers.proofs.well_formed.Statement.{statement}
 use Rattle.markers.proofs.well_formed.Tie as tie
-use Rattle.markers.proofs.well_formed.Reads as reads
-use Rattle.markers.proofs.well_formed.Lts as lts
-
--- `well_formed` meets its contract: the loop keeps Forming; where a test fails, so does what the list would need to be well formed.
 
 abbrev Inv-loop : tie.InvT-loop
 Inv-loop ids xs ys count w h last₀ k₀ last k = Forming ids xs ys w h count last k
@@ -16,7 +13,7 @@ abbrev μ-loop : tie.MeasureT-loop
 μ-loop ids xs ys count w h last₀ k₀ last k = count - k
 
 returns : tie.Need-returns Inv-loop μ-loop
-returns c = refused (too-many _ _ _ _ _ _ (c .before .pre) (omega arith))
+returns c = refused (too-many _ _ _ _ _ _ (c .before .pre) (omega (arith, limit)))
 
 returns-2 : tie.Need-returns-2 Inv-loop μ-loop
 returns-2 c = refused (not-lent _ _ _ _ _ _ (c .before .before .pre) (omega arith))
@@ -31,7 +28,7 @@ shared-slice-read-if3 : tie.Need-shared-slice-read-if3 Inv-loop μ-loop
 shared-slice-read-if3 c = omega arith
 
 returns-3 : tie.Need-returns-3 Inv-loop μ-loop
-returns-3 c = 
+returns-3 c =
     let l = c .before .before .before in
     let s = l .before .before .before in
     refused (λ g. omega (arith, next-above _ _ _ _ _ _ (s .pre) (omega arith) (l .loop .inv) g))
@@ -46,7 +43,7 @@ cast-if4 : tie.Need-cast-if4 Inv-loop μ-loop
 cast-if4 c = omega (arith, c .shared-slice-known2 .given (c .before .before .before .before .loop .k))
 
 returns-4 : tie.Need-returns-4 Inv-loop μ-loop
-returns-4 c = 
+returns-4 c =
     let l = c .before .before .before .before .before in
     let s = l .before .before .before in
     refused (λ g. omega (arith, next-x _ _ _ _ _ _ (s .pre) {k = l .loop .k} (omega arith) g))
@@ -61,7 +58,7 @@ cast-if5 : tie.Need-cast-if5 Inv-loop μ-loop
 cast-if5 c = omega (arith, c .shared-slice-known3 .given (c .before .before .before .before .before .before .loop .k))
 
 returns-5 : tie.Need-returns-5 Inv-loop μ-loop
-returns-5 c = 
+returns-5 c =
     let l = c .before .before .before .before .before .before .before in
     let s = l .before .before .before in
     refused (λ g. omega (arith, next-y _ _ _ _ _ _ (s .pre) {k = l .loop .k} (omega arith) g))
@@ -79,16 +76,16 @@ loop-less : tie.Need-loop-less Inv-loop μ-loop
 loop-less c = omega arith
 
 loop-again : tie.Need-loop-again Inv-loop μ-loop
-loop-again c = 
+loop-again c =
     let l = c .before .before .before .before .before .before .before .before in
     let s = l .before .before .before in
     forming-more _ _ _ _ _ _ (s .pre) (omega arith) (omega arith) (omega arith) (omega arith) (l .loop .inv)
 
 returns-6 : tie.Need-returns-6 Inv-loop μ-loop
-returns-6 c = 
+returns-6 c =
     let l = c .before in
     let s = l .before .before .before in
-    accepted (forming-end _ _ _ _ _ _ (s .pre) (omega arith) (omega arith) (omega arith) (l .loop .inv))
+    accepted (forming-end _ _ _ _ _ _ (s .pre) (omega arith) (omega (arith, limit)) (omega arith) (l .loop .inv))
 
 pub well-formed-spec : {M : Type 1} → statement M
 well-formed-spec =

@@ -1,12 +1,10 @@
 -- `wipe` meets its contract: the loop keeps Wiping, counting i up to the length.
 use Prim.Native.Nat.{_-_}
 use native.Mathlib.Omega.{arith}
-use lib.ListN.{length, length-set}
+use lib.ListN.{length}
 use Rattle.markers.proofs.Wiping.{Wiping, wiping-start, wiping-more, wiping-end}
 use Rattle.markers.proofs.wipe.Statement.{statement}
 use Rattle.markers.proofs.wipe.Tie as tie
-
--- `wipe` meets its contract: all bytes passed are zero, and past the end of a list there is nothing but the default, zero.
 
 abbrev Inv-loop : tie.InvT-loop
 Inv-loop sheet₀ i₀ sheet i = Wiping sheet₀ i sheet

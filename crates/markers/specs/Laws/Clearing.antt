@@ -1,6 +1,6 @@
--- Clearing has one outcome: there is a list that Cleared allows, made slot by slot, and any two that it allows are equal, since it says what stands in
--- each slot and the id stands in one slot only.
-use mathlib.Core.Path.{_≡_, refl, sym, ap, _∙_}
+-- Clearing has one outcome: there is a list that Cleared allows, made slot by slot, and any two that it allows are equal, since it says what stands
+-- in each slot and the id stands in one slot only.
+use mathlib.Core.Path.{_≡_, sym, ap, _∙_}
 use mathlib.Core.List.{List}
 use Prim.Native.Nat.{ℕ, _+_, _<_, _≤_}
 use native.Mathlib.Omega.{arith}
@@ -35,7 +35,8 @@ module _ (list : List Marker) (count place : ℕ) where
   unfolding clearedSlot
   slot-past k l u = pick-no _ _ _ (omega arith) ∙ pick-no _ _ _ (omega arith) ∙ pick-no _ _ _ (omega arith)
 
-cleared-slot : {list after : List Marker} {count id : ℕ} (c : Cleared list count id after) (k : ℕ) → slot after k ≡ clearedSlot list count (c .place) k
+cleared-slot : {list after : List Marker} {count id : ℕ} (c : Cleared list count id after) (k : ℕ)
+    → slot after k ≡ clearedSlot list count (c .place) k
 cleared-slot {list} {after} {count} {id} c k = go (decLt k (c .place)) (decLt (k + 1) count) (decLt k count)
   where
     go : Dec (k < c .place) → Dec (k + 1 < count) → Dec (k < count) → slot after k ≡ clearedSlot list count (c .place) k
@@ -52,7 +53,8 @@ cleared-one {list} {a} {b} {count} {id} r p q =
     same : p .place ≡ q .place
     same = id-one list count r (p .place) (q .place) (p .below) (q .below) (p .is ∙ sym (q .is))
 
-pub cleared-some : {list : List Marker} {count id : ℕ} → count ≤ length list → InUse list count id → (after : List Marker) × Cleared list count id after
+pub cleared-some : {list : List Marker} {count id : ℕ} → count ≤ length list → InUse list count id
+    → (after : List Marker) × Cleared list count id after
 cleared-some {list} {count} {id} lent u = (after, made)
   where
     from : ℕ → Marker

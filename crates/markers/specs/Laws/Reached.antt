@@ -1,7 +1,7 @@
 -- Every list that entering and clearing reach from an empty one is well formed: the empty one is, and each step keeps it so.
 use mathlib.Core.Path.{_≡_, sym, subst}
 use mathlib.Core.List.{List}
-use Prim.Native.Nat.{ℕ, _+_, _<_, _≤_}
+use Prim.Native.Nat.{ℕ}
 use native.Mathlib.Omega.{arith}
 use Rattle.field.specs.declared.Marker.{Marker}
 use Rattle.markers.specs.List.{WellFormed}

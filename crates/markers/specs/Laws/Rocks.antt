@@ -1,18 +1,17 @@
 -- Rocks by slots: a crossing is a rock where a marker in use stands on it. Entering adds the rock of the marker entered; clearing takes one away only
 -- where no other marker stands on its crossing.
-use mathlib.Core.Path.{_≡_, refl, sym, ap, _∙_}
+use mathlib.Core.Path.{_≡_, sym, ap, _∙_}
 use mathlib.Core.List.{List}
 use mathlib.Core.Logic.{_⊎_, inl, inr, _↔_}
-use Prim.Native.Nat.{ℕ, _+_, _-_, _<_, _≤_, min}
+use Prim.Native.Nat.{ℕ, _+_, _<_, _≤_}
 use native.Mathlib.Omega.{arith}
-use native.Mathlib.Decide.{decLt, ℕ-discrete}
-use lib.ListN.{length, getD, take, length-take}
+use lib.ListN.{length, length-take}
 use lib.Seq.{getD-take}
 use Rattle.field.specs.declared.Marker.{Marker}
 use Rattle.field.specs.Labels.{Rock, blank}
 use Rattle.markers.specs.List.{slot, WellFormed, Entered, Cleared, inUse}
 use Rattle.markers.specs.Laws.Rising.{RisingIds, id-one}
-use Rattle.markers.specs.Laws.Moves.{SlotOf, entered-from, entered-to, entered-there, OtherOf, cleared-from, cleared-to}
+use Rattle.markers.specs.Laws.Moves.{SlotOf, entered-from, entered-to, entered-there, cleared-from, cleared-to}
 
 -- A marker in use stands on (x, y).
 pub record Stands (list : List Marker) (count x y : ℕ) : Type 0 where

@@ -45,20 +45,22 @@ listOf-y ids xs ys p k = ap (λ (m : Marker). m .y) (listOf-slot ids xs ys p k)
 pub marker-same : {i j x a y b : ℕ} → i ≡ j → x ≡ a → y ≡ b → marker i x y ≡ marker j a b
 marker-same p q r = λ t. record { id = p t; x = q t; y = r t }
 
--- Parallel slices that make one list are the same slices.
+-- Two lists, each of three parallel slices.
 module _ (ids xs ys ids′ xs′ ys′ : List ℕ) (p : Parallel ids xs ys) (p′ : Parallel ids′ xs′ ys′) where
   -- What is equal in each slice is equal in the list.
   pub slots-same : (j k : ℕ) → getD ids′ j 0 ≡ getD ids k 0 → getD xs′ j 0 ≡ getD xs k 0 → getD ys′ j 0 ≡ getD ys k 0
       → slot (listOf ids′ xs′ ys′) j ≡ slot (listOf ids xs ys) k
   slots-same j k a b c = listOf-slot ids′ xs′ ys′ p′ j ∙ marker-same a b c ∙ sym (listOf-slot ids xs ys p k)
 
+  -- Parallel slices that make one list are the same slices.
   pub listOf-one : listOf ids xs ys ≡ listOf ids′ xs′ ys′ → (ids ≡ ids′) × (xs ≡ xs′) × (ys ≡ ys′)
-  listOf-one e =
-      (ext-getD 0 ids ids′ long (λ k l. sym (listOf-id ids xs ys p k) ∙ ap (λ (m : List Marker). slot m k .id) e ∙ listOf-id ids′ xs′ ys′ p′ k),
-       ext-getD 0 xs xs′ (p .as-xs ∙ long ∙ sym (p′ .as-xs))
-       (λ k l. sym (listOf-x ids xs ys p k) ∙ ap (λ (m : List Marker). slot m k .x) e ∙ listOf-x ids′ xs′ ys′ p′ k),
-       ext-getD 0 ys ys′ (p .as-ys ∙ long ∙ sym (p′ .as-ys))
-       (λ k l. sym (listOf-y ids xs ys p k) ∙ ap (λ (m : List Marker). slot m k .y) e ∙ listOf-y ids′ xs′ ys′ p′ k))
+  listOf-one e = (
+    ext-getD 0 ids ids′ long (λ k l. sym (listOf-id ids xs ys p k) ∙ ap (λ (m : List Marker). slot m k .id) e ∙ listOf-id ids′ xs′ ys′ p′ k),
+    ext-getD 0 xs xs′ (p .as-xs ∙ long ∙ sym (p′ .as-xs))
+        (λ k l. sym (listOf-x ids xs ys p k) ∙ ap (λ (m : List Marker). slot m k .x) e ∙ listOf-x ids′ xs′ ys′ p′ k),
+    ext-getD 0 ys ys′ (p .as-ys ∙ long ∙ sym (p′ .as-ys))
+        (λ k l. sym (listOf-y ids xs ys p k) ∙ ap (λ (m : List Marker). slot m k .y) e ∙ listOf-y ids′ xs′ ys′ p′ k),
+  )
     where
       long : length ids ≡ length ids′
       long = sym (listOf-length ids xs ys p) ∙ ap length e ∙ listOf-length ids′ xs′ ys′ p′
@@ -84,7 +86,8 @@ module _ (ids xs ys : List ℕ) (count : ℕ) (p : Parallel ids xs ys) where
       go (yes l) = absurd (omega (arith, o .lower (u .place) l, at))
       go (no l) =
           let b : place < count = omega (arith, u .below) in
-          (b, omega (arith, at, o .higher place (omega arith) b, rises-le (λ (k : ℕ). getD ids k 0) count (r .rising) place (u .place) (omega arith) (u .below)))
+          let up = rises-le (λ (k : ℕ). getD ids k 0) count (r .rising) place (u .place) (omega arith) (u .below) in
+          (b, omega (arith, at, o .higher place (omega arith) b))
 
   pub place-used : (id place : ℕ) → place < count → getD ids place 0 ≡ id → InUse (listOf ids xs ys) count id
   place-used id place l e = record { place = place; below = l; is = listOf-id ids xs ys p place ∙ e }
@@ -127,10 +130,11 @@ slots-enter ids xs ys ids′ xs′ ys′ count id x y place r may o i a b e =
 -- An id in use leaves a slot to close in each slice.
 pub slots-may-close : (ids xs ys : List ℕ) (count id place : ℕ) → MayClear ids xs ys count id → PlaceOf ids count id place
     → MayClose ids count place × MayClose xs count place × MayClose ys count place
-slots-may-close ids xs ys count id place may o =
-    (record { below = used .0; lent = r .lent },
-     record { below = used .0; lent = omega (arith, r .lent, p .as-xs) },
-     record { below = used .0; lent = omega (arith, r .lent, p .as-ys) })
+slots-may-close ids xs ys count id place may o = (
+  record { below = used .0; lent = r .lent },
+  record { below = used .0; lent = omega (arith, r .lent, p .as-xs) },
+  record { below = used .0; lent = omega (arith, r .lent, p .as-ys) },
+)
   where
     p : Parallel ids xs ys
     p = may .parallel

@@ -1,12 +1,12 @@
--- How often each marker stands in a list: some one number of times. Entering makes it once more for the marker entered, clearing once less for the one
--- cleared, and every other marker stands in the list after exactly as often as before.
+-- How often each marker stands in a list: some one number of times. Entering makes it once more for the marker entered, clearing once less for the
+-- one cleared, and every other marker stands in the list after exactly as often as before.
 use mathlib.Core.Path.{_≡_, refl, sym, subst, ap, _∙_}
 use mathlib.Core.List.{List, [], _∷_}
 use Prim.Native.Nat.{ℕ, zero, suc, _+_, _<_, _≤_}
 use native.Mathlib.Omega.{arith}
 use native.Mathlib.Numerals.{add-one}
 use native.Mathlib.Decide.{ℕ-discrete}
-use lib.ListN.{length, getD, take, length-take}
+use lib.ListN.{length, take, length-take}
 use lib.Seq.{length-take-le, getD-take, ext-getD}
 use Rattle.field.specs.declared.Marker.{Marker}
 use Rattle.field.specs.Labels.{blank}
@@ -84,7 +84,8 @@ entered-added {list} {after} {count} {m} room e =
     added m (take count list) (take (count + 1) after) (e .place) (omega (arith, less, more)) (omega (arith, less, e .within))
     (λ k l. new k (omega (arith, e .within)) ∙ e .before k l ∙ sym (old k (omega (arith, e .within))))
     (new (e .place) (omega (arith, e .within)) ∙ e .put)
-    (λ k l n. new (suc k) (omega (arith, less)) ∙ ap (slot after) (sym (add-one k)) ∙ e .moved k l (omega (arith, less)) ∙ sym (old k (omega (arith, less))))
+    (λ k l n. new (suc k) (omega (arith, less)) ∙ ap (slot after) (sym (add-one k)) ∙ e .moved k l (omega (arith, less))
+    ∙ sym (old k (omega (arith, less))))
   where
     less : length (take count list) ≡ count
     less = length-take-le count list (omega arith)
@@ -106,7 +107,7 @@ cleared-added {list} {after} {count} {id} next lent c n =
     (λ k l. old k (omega (arith, c .below)) ∙ sym (c .before k l) ∙ sym (new k (omega (arith, c .below))))
     (old (c .place) (c .below))
     (λ k l q. old (suc k) (omega (arith, less)) ∙ ap (slot list) (sym (add-one k)) ∙ sym (c .moved k l (omega (arith, less)))
-      ∙ sym (new k (omega (arith, less))))
+    ∙ sym (new k (omega (arith, less))))
   where
     less : length (take next after) ≡ next
     less = length-take-le next after (omega (arith, c .size))
@@ -138,7 +139,8 @@ module _ {list after : List Marker} {count : ℕ} {m : Marker} (room : count < l
           new (record { place = k; below = b; is = sym (ap (λ (n : Marker). n .id) (getD-take count list k blank b)) ∙ s .id })
 
 -- The marker cleared stood in the list once more than it stands there after, and every other one as often as after.
-module _ {list after : List Marker} {count id : ℕ} (next : ℕ) (lent : count ≤ length list) (c : Cleared list count id after) (n : next + 1 ≡ count) where
+module _ {list after : List Marker} {count id : ℕ} (next : ℕ) (lent : count ≤ length list) (c : Cleared list count id after)
+    (n : next + 1 ≡ count) where
   pub cleared-other : {m : Marker} {t : ℕ} → ¬ Same (slot list (c .place)) m → Times m (inUse list count) t → Times m (inUse after next) t
   cleared-other {m} {t} d p =
       let s = times-some m (inUse after next) in
@@ -156,5 +158,5 @@ module _ {list after : List Marker} {count id : ℕ} (next : ℕ) (lent : count 
           let b : k < next = omega (arith, l, length-take next after) in
           let o = cleared-from c n k b in
           let i : slot list (o .place) .id ≡ slot list (c .place) .id =
-                ap (λ (j : Marker). j .id) (o .is ∙ sym (getD-take next after k blank b)) ∙ s .id ∙ e ∙ sym (c .is) in
+          ap (λ (j : Marker). j .id) (o .is ∙ sym (getD-take next after k blank b)) ∙ s .id ∙ e ∙ sym (c .is) in
           o .other (id-one list count r (o .place) (c .place) (o .below) (c .below) i)
