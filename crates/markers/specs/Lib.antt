@@ -5,3 +5,4 @@ pub mod Reached
 pub mod Promise
 pub mod Slots
 pub mod Laws
+pub mod Theorems

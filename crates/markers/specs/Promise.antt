@@ -58,6 +58,7 @@ pub record Clears (ids xs ys : List ℕ) (count id : ℕ) (ids′ xs′ ys′ : 
 -- What stamping asks: markers in use within the slices and on the map, and a sheet of the map's size.
 pub record MayStamp (w h : ℕ) (xs ys : List ℕ) (count : ℕ) (sheet : List ℕ) : Type 0 where
   pub sides : Sides w h
+  pub level : length ys ≡ length xs
   pub lent-xs : count ≤ length xs
   pub lent-ys : count ≤ length ys
   pub on : (k : ℕ) → k < count → On w h (getD xs k 0) (getD ys k 0)
