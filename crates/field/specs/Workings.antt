@@ -2,6 +2,7 @@
 pub mod Tests
 pub mod Sheet
 pub mod Marks
+pub mod MarkCount
 pub mod Closing
 pub mod Stamping
 pub mod Labelling
@@ -14,6 +15,7 @@ pub mod DistanceLaws
 pub mod AssuredLaws
 pub mod HopLaws
 pub mod AnswerLaws
+pub mod AxisLaws
 pub mod GridLaws
 pub mod DriveLaws
 pub mod RegionLaws

@@ -15,11 +15,7 @@ use Rattle.field.specs.Distances.{Way, eastward, southward, westward, no
 use Rattle.field.specs.Workings.Sheet.{Draws, lit}
 use Rattle.field.specs.Workings.Marks.{drawn-dec, drawn-lit, lit-drawn, undrawn-lit}
 use Rattle.field.specs.Workings.Looking.{litAlong, look, clearOf}
-
--- "255 is no distance: the largest is 63."
-pub no-distance-far : side ≤ no-distance
-unfolding side no-distance
-no-distance-far = omega arith
+pub use Rattle.field.specs.Workings.GridLaws.{no-distance-far, along-short}
 
 -- A crossing has one clear distance that way.
 pub clear-one : {C : ℕ → ℕ → Type 0} {t : Way} {x y n m : ℕ} → Clear C t x y n → Clear C t x y m → n ≡ m
@@ -37,13 +33,6 @@ clear-one {n = n} (nearest a b o l k f) (none o′ f′ e) = absurd (f′ n a b 
 clear-one (none o f e) (at-closed c e′) = absurd (o c)
 clear-one {m = m} (none o f e) (nearest a b o′ l k f′) = absurd (f m a b l k)
 clear-one (none o f e) (none o′ f′ e′) = omega arith
-
--- Nothing on the map is as far from a crossing as a number that neither side passes.
-pub along-short : (t : Way) (n w h k x y a b : ℕ) → w ≤ n → h ≤ n → On w h x y → On w h a b → Along t k x y a b → k < n
-along-short eastward n w h k x y a b p q o m l = omega arith
-along-short southward n w h k x y a b p q o m l = omega arith
-along-short westward n w h k x y a b p q o m l = omega arith
-along-short northward n w h k x y a b p q o m l = omega arith
 
 -- No hops that way lead nowhere.
 along-start : (t : Way) (x y : ℕ) → Along t 0 x y x y
