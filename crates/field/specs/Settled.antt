@@ -8,8 +8,8 @@ use Rattle.field.specs.Map.{gap, no-distance}
 use Rattle.field.specs.Labels.{sumTo}
 use Rattle.field.specs.Chooser.{drawn, top}
 use Rattle.field.specs.Table.{Row, Holds, table}
+use Rattle.field.specs.Workings.Tests.{and-split}
 use Rattle.field.specs.Workings.Sheet.{lit, westOf, southOf, around, row, rowsFrom, sheet}
-use Rattle.field.specs.Workings.Marks.{and-split}
 use Rattle.field.specs.Workings.Closing.{closing, until, sweep, next, marks}
 use Rattle.field.specs.Workings.Stamping.{stamp, rockOf, stands}
 use Rattle.field.specs.Workings.Labelling.{labelling, labelsFrom}
@@ -17,7 +17,8 @@ use Rattle.field.specs.Workings.Counting.{tally}
 use Rattle.field.specs.Workings.Corners.{cornerOf, groupsOf, every, rectangleOf}
 use Rattle.field.specs.Workings.Looking.{litAlong, look, clearOf, distancesOf, enoughOf, axisOf, openOf, assuredOf, hopTo}
 use Rattle.field.specs.Workings.Reaching.{reachNext, reach, onWay, regionOf, eastWestIn, northSouthIn, chosenOf, driveOf}
-use Rattle.field.specs.Workings.RowTests.{same, rockSheet, closedSheet, regionSheet, alone, no-distance-at, passes, passes-holds}
+use Rattle.field.specs.Workings.RowTests.{same, rockSheet, closedSheet, regionSheet, alone, no-distance-at, passes}
+use Rattle.field.specs.Workings.RowLaws.{passes-holds}
 
 -- Every row of a list holds.
 pub data EveryRow : List Row → Type 0 where

@@ -9,6 +9,7 @@ pub mod Labelling
 pub mod Counting
 pub mod Corners
 pub mod RowTests
+pub mod RowLaws
 pub mod Looking
 pub mod ClearLaws
 pub mod DistanceLaws

@@ -6,7 +6,7 @@ use Prim.Native.Nat.{ℕ, suc, _+_, _*_, _<_, _≤_}
 use native.Mathlib.Omega.{arith}
 use native.Mathlib.Nat.{mul-le-mul-right}
 use native.Mathlib.Decide.{ℕ-discrete}
-use Rattle.field.specs.Map.{On, number, Near, east, west, north, south, gap, dist, side, no-distance}
+use Rattle.field.specs.Map.{On, number, Near, east, west, north, south, Apart, gap, dist, side, no-distance}
 use Rattle.field.specs.Distances.{Way, eastward, southward, westward, northward, Along}
 use Rattle.field.specs.Workings.Looking.{hopTo}
 pub use Rattle.field.specs.Workings.AxisLaws.{Order, less, same, more, order, gap-none, gap-zero, gap-turned, gap-detour, OneApart, nearer, farther, apart-turned}
@@ -18,6 +18,10 @@ dist-none p q = omega (arith, gap-none p, gap-none q)
 
 pub dist-zero : (x y a b : ℕ) → dist x y a b ≡ 0 → (x ≡ a) × (y ≡ b)
 dist-zero x y a b e = (gap-zero x a (omega arith), gap-zero y b (omega arith))
+
+-- Crossings some hops apart are two.
+pub dist-apart : (x y a b : ℕ) → 0 < dist x y a b → Apart x y a b
+dist-apart x y a b l e = omega (arith, dist-none (e .0) (e .1))
 
 pub dist-turned : (x y a b : ℕ) → dist x y a b ≡ dist a b x y
 dist-turned x y a b = omega (arith, gap-turned x a, gap-turned y b)

@@ -10,6 +10,7 @@ use lib.ListN.{length}
 use borrow.Author.Tests.{lt-ltb, le-ltb}
 use Rattle.field.specs.Map.{On, at}
 use Rattle.field.specs.Labels.{Closed, rock, closed-on-map, Open, Shut, RockOn, Label, is-open, is-rock, is-shut, LabelSheet}
+use Rattle.field.specs.Workings.Tests.{only}
 use Rattle.field.specs.Workings.Sheet.{Marked, Draws, lit, sheet, sheet-length, sheet-at, sheet-same}
 use Rattle.field.specs.Workings.Marks.{drawn-dec, drawn-lit, undrawn-lit}
 use Rattle.field.specs.Workings.Closing.{closing, closing-draws}
@@ -82,4 +83,4 @@ module _ (R : ℕ → ℕ → Type 0) (w h : ℕ) (rocks : List ℕ) (D : Draws 
   labelling-labels = labels-from R w h rocks (closing w h rocks) D (closing-draws w h R rocks D)
 
   pub labels-labelling : (s : List ℕ) → LabelSheet R w h s ↔ (s ≡ labelling w h rocks)
-  labels-labelling s = (λ L. label-sheet-one R w h s (labelling w h rocks) L labelling-labels, λ e. rw e labelling-labels)
+  labels-labelling = only (LabelSheet R w h) (labelling w h rocks) labelling-labels (label-sheet-one R w h)
