@@ -3,7 +3,6 @@
 use mathlib.Core.Path.{_≡_, refl}
 use mathlib.Core.Bool.{Bool, true, _&&_}
 use mathlib.Core.List.{List, [], _∷_}
-use Prim.Native.Nat.{ℕ}
 use Rattle.field.specs.Map.{gap, no-distance}
 use Rattle.field.specs.Labels.{sumTo}
 use Rattle.field.specs.Chooser.{drawn, top}
@@ -32,7 +31,7 @@ all-pass (r ∷ rs) = passes r && all-pass rs
 all-hold : (rs : List Row) → all-pass rs ≡ true → EveryRow rs
 unfolding all-pass
 all-hold [] e = none
-all-hold (r ∷ rs) e = let f = and-split (passes r) (all-pass rs) e in one (passes-holds r (f .0)) (all-hold rs (f .1))
+all-hold (r ∷ rs) e = let f = and-split _ _ e in one (passes-holds r (f .0)) (all-hold rs (f .1))
 
 table-passes : all-pass table ≡ true
 unfolding all-pass table gap no-distance sumTo drawn top lit westOf southOf around row rowsFrom sheet closing until sweep next marks stamp rockOf stands labelling labelsFrom tally cornerOf groupsOf every rectangleOf litAlong look clearOf distancesOf enoughOf axisOf openOf assuredOf hopTo reachNext reach onWay regionOf eastWestIn northSouthIn chosenOf driveOf same rockSheet closedSheet regionSheet alone no-distance-at passes

@@ -66,8 +66,8 @@ module _ (w h : ℕ) (C : ℕ → ℕ → Type 0) (s : List ℕ) (D : Draws w h 
 
       holds : (ltb x w && (ltb y h && eqb (lit s w h x y) 0)) ≡ true → Open w h C x y
       holds e =
-          let a = and-split (ltb x w) (ltb y h && eqb (lit s w h x y) 0) e in
-          let b = and-split (ltb y h) (eqb (lit s w h x y) 0) (a .1) in
+          let a = and-split _ _ e in
+          let b = and-split _ _ (a .1) in
           let z : lit s w h x y ≡ 0 = eqb-true (lit s w h x y) 0 (b .1) in
           record {
             on = record { in-x = ltb-true x w (a .0); in-y = ltb-true y h (b .0) };
@@ -103,9 +103,9 @@ module _ (w h : ℕ) (C : ℕ → ℕ → Type 0) (s : List ℕ) (D : Draws w h 
 
       holds : (openOf s w h hx hy && (openOf s w h x y && (row-test && column-test))) ≡ true → Assured w h C hx hy x y
       holds e =
-          let a = and-split (openOf s w h hx hy) (openOf s w h x y && (row-test && column-test)) e in
-          let b = and-split (openOf s w h x y) (row-test && column-test) (a .1) in
-          let c = and-split row-test column-test (b .1) in
+          let a = and-split _ _ e in
+          let b = and-split _ _ (a .1) in
+          let c = and-split _ _ (b .1) in
           let o = open-looks hx hy .1 (a .0) in
           record {
             home = o;

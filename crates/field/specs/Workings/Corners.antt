@@ -36,11 +36,15 @@ every (suc n) f = f n && every n f
 pub every-one : (n : ℕ) (f : ℕ → Bool) → every n f ≡ true → (k : ℕ) → k < n → f k ≡ true
 unfolding every
 every-one zero f e k l = absurd (omega arith)
-every-one (suc n) f e k l = let both = and-split (f n) (every n f) e in go (decLt k n) (both .0) (every-one n f (both .1) k)
+every-one (suc n) f e k l = let both = and-split _ _ e in go (decLt k n) (both .0) (every-one n f (both .1) k)
   where
     go : Dec (k < n) → f n ≡ true → (k < n → f k ≡ true) → f k ≡ true
     go (yes m) p g = g m
     go (no m) p g = let q : n ≡ k = omega arith in subst (λ (i : ℕ). f i ≡ true) q p
+
+-- The same of a test on two numbers.
+pub every-two : (n m : ℕ) (f : ℕ → ℕ → Bool) → every n (λ y. every m (f y)) ≡ true → (x y : ℕ) → x < m → y < n → f y x ≡ true
+every-two n m f e x y p q = every-one m (f y) (every-one n (λ y. every m (f y)) e y q) x p
 
 -- Where f tells P, and holds from low to high, and P ends there on both sides, that is the run of P.
 every-run : (P : ℕ → Type 0) (f : ℕ → Bool) → ((u : ℕ) → f u ≡ true → P u) → (low high : ℕ) → low ≤ high
@@ -114,11 +118,11 @@ module _ (w h : ℕ) (C : ℕ → ℕ → Type 0) (s : List ℕ) (D : Draws w h 
     pub rectangle-looks : (x₀ x₁ y₀ y₁ : ℕ) → rectangleOf s w h x₀ x₁ y₀ y₁ ≡ true → (a b : ℕ) → Linked C x₀ y₀ a b ↔ Within x₀ x₁ y₀ y₁ a b
     unfolding rectangleOf every-run
     rectangle-looks x₀ x₁ y₀ y₁ e =
-        let f = and-split (leb x₀ x₁ && leb y₀ y₁) _ e in
-        let g = and-split (leb x₀ x₁) (leb y₀ y₁) (f .0) in
-        let k = and-split (every (suc (x₁ - x₀)) (λ k. ltb 0 (lit s w h (x₀ + k) y₀)) && every (suc (y₁ - y₀)) (λ k. ltb 0 (lit s w h x₀ (y₀ + k)))) _ (f .1) in
-        let r = and-split (every (suc (x₁ - x₀)) (λ k. ltb 0 (lit s w h (x₀ + k) y₀))) _ (k .0) in
-        let t = and-split (eqb (westOf s w h x₀ y₀ + southOf s w h x₀ y₀) 0) _ (k .1) in
+        let f = and-split _ _ e in
+        let g = and-split _ _ (f .0) in
+        let k = and-split _ _ (f .1) in
+        let r = and-split _ _ (k .0) in
+        let t = and-split _ _ (k .1) in
         let low : westOf s w h x₀ y₀ + southOf s w h x₀ y₀ ≡ 0 = eqb-true _ _ (t .0) in
         let high : lit s w h (x₁ + 1) y₀ + lit s w h x₀ (y₁ + 1) ≡ 0 = eqb-true _ _ (t .1) in
         let row =

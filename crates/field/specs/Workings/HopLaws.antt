@@ -2,7 +2,7 @@
 -- So from a place there are at most two, and what a hop call may answer is one.
 use mathlib.Core.Path.{_≡_, refl}
 use mathlib.Core.Logic.{_⊎_, inl, inr, _↔_, _≢_}
-use Prim.Native.Nat.{ℕ, _+_}
+use Prim.Native.Nat.{ℕ}
 use native.Mathlib.Omega.{arith}
 use Rattle.field.specs.Map.{Apart}
 use Rattle.field.specs.Labels.{Open}

@@ -21,8 +21,8 @@ module _ (s : List ℕ) (w h : ℕ) where
   unfolding lit
   lit-marked x y l =
       let e : (ltb x w && (ltb y h && ltb 0 (at s w x y))) ≡ true = bit-true _ l in
-      let f = and-split (ltb x w) (ltb y h && ltb 0 (at s w x y)) e in
-      let g = and-split (ltb y h) (ltb 0 (at s w x y)) (f .1) in
+      let f = and-split _ _ e in
+      let g = and-split _ _ (f .1) in
       record { on = record { in-x = ltb-true _ _ (f .0); in-y = ltb-true _ _ (g .0) }; mark = ltb-true _ _ (g .1) }
 
   pub marked-lit : (x y : ℕ) → Marked s w h x y → lit s w h x y ≡ 1

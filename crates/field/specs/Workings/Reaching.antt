@@ -1,7 +1,7 @@
 -- Workings: the region and the chooser's drive. c is a sheet of the closed crossings, g one of the region.
 use mathlib.Core.Bool.{Bool, true, false, cond, _&&_, _||_}
 use mathlib.Core.List.{List, [], _∷_}
-use Prim.Native.Nat.{ℕ, zero, suc, _+_, _-_}
+use Prim.Native.Nat.{ℕ, zero, suc, _+_}
 use lib.Dec.{ltb, eqb}
 use Rattle.field.specs.Map.{number, dist}
 use Rattle.field.specs.Chooser.{drawn, top}

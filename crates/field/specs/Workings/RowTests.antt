@@ -1,14 +1,20 @@
--- A test for each row of the table of settled examples, which the checker computes. That a row which passes its test holds is proved in RowLaws.
-use mathlib.Core.Bool.{Bool, true, false, not, _&&_, _||_}
+-- A test for each row of the table of settled examples, which the checker computes; beside the small tests of which they are made stands what
+-- those tell. That a row which passes its test holds is proved in RowLaws.
+use mathlib.Core.Path.{_≡_, refl}
+use mathlib.Core.Bool.{Bool, true, false, not, _&&_, _||_, false≢true}
 use mathlib.Core.List.{List, [], _∷_}
-use Prim.Native.Nat.{ℕ, suc}
+use mathlib.Core.Logic.{_↔_}
+use Prim.Native.Nat.{ℕ, suc, _<_}
+use native.Mathlib.Omega.{arith}
 use lib.Dec.{ltb, eqb}
 use lib.ListN.{length}
+use borrow.Author.Tests.{ltb-true, lt-ltb, eqb-true}
 use Rattle.field.specs.Map.{dist, no-distance}
-use Rattle.field.specs.Distances.{eastward, southward, westward, northward}
+use Rattle.field.specs.Distances.{Way, eastward, southward, westward, northward}
 use Rattle.field.specs.Table.{Row, labels, group, no-distances, distances, assured, not-assured, refused-9, drive, region, outside, driven, Place, wide, high, markersOn, picture}
-use Rattle.field.specs.Workings.Tests.{bit}
-use Rattle.field.specs.Workings.Sheet.{lit}
+use Rattle.field.specs.Workings.Tests.{bit, and-split}
+use Rattle.field.specs.Workings.Sheet.{Draws, lit}
+use Rattle.field.specs.Workings.Marks.{lit-le, drawn-lit, lit-drawn, undrawn-lit}
 use Rattle.field.specs.Workings.Closing.{closing}
 use Rattle.field.specs.Workings.Stamping.{stamp}
 use Rattle.field.specs.Workings.Labelling.{labelling}
@@ -24,6 +30,17 @@ same [] (v ∷ vs) = false
 same (u ∷ us) [] = false
 same (u ∷ us) (v ∷ vs) = eqb u v && same us vs
 
+pub same-is : (s t : List ℕ) → same s t ≡ true → s ≡ t
+unfolding same
+same-is [] [] e = refl
+same-is [] (v ∷ vs) e = absurd (false≢true e)
+same-is (u ∷ us) [] e = absurd (false≢true e)
+same-is (u ∷ us) (v ∷ vs) e =
+    let f = and-split _ _ e in
+    let p : u ≡ v = eqb-true u v (f .0) in
+    let q : us ≡ vs = same-is us vs (f .1) in
+    cc
+
 -- A row's sheets: its rocks, its closed crossings, its region from s to d.
 unfoldable pub rockSheet : List Place → List ℕ
 rockSheet ps = stamp wide high (markersOn ps)
@@ -38,11 +55,44 @@ regionSheet ps sx sy dx dy = regionOf (closedSheet ps) wide high sx sy dx dy
 unfoldable pub alone : List ℕ → List ℕ → ℕ → ℕ → Bool
 alone s t x y = ltb (lit s wide high x y) (lit t wide high x y)
 
+-- What is marked on the second sheet alone is in Q and not in P.
+pub alone-looks : {P Q : ℕ → ℕ → Type 0} {s t : List ℕ} → Draws wide high P s → Draws wide high Q t → (x y : ℕ)
+    → ((Q x y × ¬ P x y) ↔ alone s t x y ≡ true)
+unfolding alone
+alone-looks {P} {Q} {s} {t} D E x y = (sound, complete)
+  where
+    sound : Q x y × ¬ P x y → ltb (lit s wide high x y) (lit t wide high x y) ≡ true
+    sound k =
+        lt-ltb (lit s wide high x y) (lit t wide high x y)
+        (omega (arith, undrawn-lit wide high P s D x y (k .1), drawn-lit wide high Q t E x y (k .0)))
+
+    complete : ltb (lit s wide high x y) (lit t wide high x y) ≡ true → Q x y × ¬ P x y
+    complete e =
+        let l : lit s wide high x y < lit t wide high x y = ltb-true _ _ e in
+        (lit-drawn wide high Q t E x y (omega arith), λ p. omega (arith, drawn-lit wide high P s D x y p, lit-le t wide high x y))
+
 -- Each distance of (x, y) is the mark for none.
 unfoldable pub no-distance-at : List ℕ → ℕ → ℕ → Bool
 no-distance-at s y x =
     (eqb (clearOf eastward s wide high x y) no-distance && eqb (clearOf southward s wide high x y) no-distance)
     && (eqb (clearOf westward s wide high x y) no-distance && eqb (clearOf northward s wide high x y) no-distance)
+
+pub none-each : (s : List ℕ) (x y : ℕ) → no-distance-at s y x ≡ true → (t : Way) → clearOf t s wide high x y ≡ no-distance
+unfolding no-distance-at
+none-each s x y e t =
+    let f = and-split _ _ e in
+    let g = and-split _ _ (f .0) in
+    let k = and-split _ _ (f .1) in
+    by-way t (eqb-true _ _ (g .0)) (eqb-true _ _ (g .1)) (eqb-true _ _ (k .0)) (eqb-true _ _ (k .1))
+  where
+    P : Way → Type 0
+    P t = clearOf t s wide high x y ≡ no-distance
+
+    by-way : (t : Way) → P eastward → P southward → P westward → P northward → P t
+    by-way eastward e s w n = e
+    by-way southward e s w n = s
+    by-way westward e s w n = w
+    by-way northward e s w n = n
 
 -- The tests.
 unfoldable pub passes : Row → Bool

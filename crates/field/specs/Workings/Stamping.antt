@@ -28,7 +28,7 @@ stamp w h list = sheet w h (λ x y. bit (rockOf list x y))
 stands-there : (m : Marker) (x y : ℕ) → stands m x y ≡ true → (m .x ≡ x) × (m .y ≡ y)
 unfolding stands
 stands-there m x y e =
-    let f = and-split (eqb (m .x) x) (eqb (m .y) y) e in
+    let f = and-split _ _ e in
     (eqb-true _ _ (f .0), eqb-true _ _ (f .1))
 
 there-stands : (m : Marker) (x y : ℕ) → m .x ≡ x → m .y ≡ y → stands m x y ≡ true
