@@ -4,7 +4,7 @@ use mathlib.Core.Path.{_≡_, refl, sym}
 use mathlib.Core.Logic.{_↔_}
 use Prim.Native.Nat.{ℕ, _≤_}
 use native.Mathlib.Omega.{arith}
-use native.Mathlib.Decide.{decLe, ℕ-discrete, map-dec}
+use native.Mathlib.Decide.{ℕ-discrete, map-dec}
 use Rattle.field.specs.Map.{On, OnMap, Near, dist}
 use Rattle.field.specs.Labels.{Stable}
 use Rattle.field.specs.Groups.{Linked, here, step, GroupsApart}
@@ -47,11 +47,7 @@ module _ (w h : ℕ) (C : ℕ → ℕ → Type 0) (on : OnMap w h C) (st : Stabl
 
   -- Two closed crossings of different groups are at least three hops apart.
   pub three-apart : (a b c d : ℕ) → C a b → C c d → ¬ Linked C a b c d → 3 ≤ dist a b c d
-  three-apart a b c d p q n = go (decLe 3 (dist a b c d))
-    where
-      go : Dec (3 ≤ dist a b c d) → 3 ≤ dist a b c d
-      go (yes l) = l
-      go (no l) = absurd (n (linked-close a b c d p q (omega arith)))
+  three-apart a b c d p q n = let k : ¬ (dist a b c d ≤ 2) = λ l. n (linked-close a b c d p q l) in omega arith
 
   -- And so are any two groups.
   pub groups-three-apart : {x y a b n : ℕ} → GroupsApart C x y a b n → ¬ Linked C x y a b → 3 ≤ n

@@ -9,9 +9,10 @@ use Rattle.field.specs.Map.{Sides, On, OnMap, no-distance, gap}
 use Rattle.field.specs.Labels.{Open}
 use Rattle.field.specs.Distances.{Way, eastward, southward, westward, northward, Along, Clear, at-closed, nearest, none}
 use Rattle.field.specs.Distances.{Enough, nothing-that-way, nearer, Axis, level, above, below}
-use Rattle.field.specs.Workings.GridLaws.{gap-turned, no-distance-far, along-short}
+use Rattle.field.specs.Workings.AxisLaws.{gap-turned, gap-above}
+use Rattle.field.specs.Workings.GridLaws.{no-distance-far, along-short}
 use Rattle.field.specs.Geometry.Shapes.{Between}
-use Rattle.field.specs.Geometry.Offsets.{gap-above, gap-between}
+use Rattle.field.specs.Geometry.Offsets.{gap-between}
 
 -- The distance is n: there is nothing that way, or k hops end before it.
 abbrev Short : ℕ → ℕ → Type 0

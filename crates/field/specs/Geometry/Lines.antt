@@ -91,15 +91,9 @@ module _ (P : ℕ → Type 0) (dec : (k : ℕ) → Dec (P k)) where
 -- A place that is reached from x without leaving P is in the run.
 module _ {P : ℕ → Type 0} {x : ℕ} (r : Run P x) (a : ℕ) (reached : (u : ℕ) → Between x u a → P u) where
   pub run-from : r .low ≤ a
-  run-from = go (decLe (r .low) a)
-    where
-      go : Dec (r .low ≤ a) → r .low ≤ a
-      go (yes l) = l
-      go (no l) = absurd (r .ends-low (r .low - 1) (omega arith) (reached (r .low - 1) (omega (arith, r .from-low))))
+  run-from =
+      let n : ¬ (a < r .low) = λ l. r .ends-low (r .low - 1) (omega arith) (reached (r .low - 1) (omega (arith, r .from-low))) in
+      omega arith
 
   pub run-to : a ≤ r .high
-  run-to = go (decLe a (r .high))
-    where
-      go : Dec (a ≤ r .high) → a ≤ r .high
-      go (yes l) = l
-      go (no l) = absurd (r .ends-high (reached (r .high + 1) (omega (arith, r .to-high))))
+  run-to = let n : ¬ (r .high < a) = λ l. r .ends-high (reached (r .high + 1) (omega (arith, r .to-high))) in omega arith

@@ -1,17 +1,12 @@
 -- Laws of places between two others on one axis, and of two intervals on it. Each is arithmetic.
 use mathlib.Core.Path.{_≡_}
-use Prim.Native.Nat.{ℕ, _+_, _<_, _≤_, max}
+use Prim.Native.Nat.{ℕ, _<_, _≤_, max}
 use native.Mathlib.Omega.{arith}
 use native.Mathlib.Decide.{decLt}
 use Rattle.field.specs.Map.{gap}
 use Rattle.field.specs.Workings.Looking.{hopTo}
-use Rattle.field.specs.Workings.AxisLaws.{Order, less, same, more, order, gap-turned, hop-up, hop-down}
+use Rattle.field.specs.Workings.AxisLaws.{Order, less, same, more, order, gap-turned, gap-above, hop-up, hop-down}
 use Rattle.field.specs.Geometry.Shapes.{Between, intervalsApart}
-
--- The offset is what is to be added to the lower place.
-pub gap-above : {a b : ℕ} → a ≤ b → a + gap a b ≡ b
-unfolding gap
-gap-above l = omega arith
 
 -- A place between m and p, other than p, is nearer m than p is.
 pub gap-between : (m p v : ℕ) → Between m v p → ¬ (v ≡ p) → gap m v < gap m p

@@ -1,5 +1,5 @@
 -- Laws of one axis: which of two places on it comes first, the next place, the offset, and one hop from a place towards another. Each is
--- arithmetic; the offset and the hop are opened here, so that elsewhere they stay shut.
+-- arithmetic, and what is said of crossings follows from these.
 use mathlib.Core.Path.{_≡_, sym}
 use mathlib.Core.Logic.{_≢_}
 use Prim.Native.Nat.{ℕ, _+_, _-_, _<_, _≤_}
@@ -23,7 +23,7 @@ order a b = go (decLt a b) (decLt b a)
     go (no l) (yes m) = more m
     go (no l) (no m) = same (omega arith)
 
--- On one line: a is next to p, upwards or downwards.
+-- a is next to p, upwards or downwards.
 pub data Step (p a : ℕ) : Type 0 where
   up : a ≡ p + 1 → Step p a
   down : a + 1 ≡ p → Step p a
@@ -36,7 +36,8 @@ pub step-other : {p a : ℕ} → Step p a → a ≢ p
 step-other (up e) = omega arith
 step-other (down e) = omega arith
 
--- Offsets.
+-- The offset is 0 between a place and itself and nowhere else, the same both ways, no longer than by a detour, and what is to be added to the
+-- lower place. Places with offset 1 are next to each other.
 pub gap-none : {a b : ℕ} → a ≡ b → gap a b ≡ 0
 unfolding gap
 gap-none e = omega arith
@@ -52,6 +53,10 @@ gap-turned a b = omega arith
 pub gap-detour : (a b c : ℕ) → gap a c ≤ gap a b + gap b c
 unfolding gap
 gap-detour a b c = omega arith
+
+pub gap-above : {a b : ℕ} → a ≤ b → a + gap a b ≡ b
+unfolding gap
+gap-above l = omega arith
 
 pub gap-step : (a b : ℕ) → gap a b ≡ 1 → Step a b
 unfolding gap
@@ -71,6 +76,7 @@ pub apart-turned : {m n : ℕ} → OneApart m n → OneApart n m
 apart-turned (nearer e) = farther (omega arith)
 apart-turned (farther e) = nearer (omega arith)
 
+-- A step changes the offset by one.
 gap-up : (a p d : ℕ) → a ≡ p + 1 → OneApart (gap a d) (gap p d)
 unfolding gap
 gap-up a p d e = go (decLt p d)
@@ -103,7 +109,7 @@ pub hop-nearer : (p d : ℕ) → p ≢ d → gap (hopTo p d) d + 1 ≡ gap p d
 unfolding gap
 hop-nearer p d n = go (decLt p d)
   where
-    go : Dec (p < d) → (hopTo p d - d) + (d - hopTo p d) + 1 ≡ (p - d) + (d - p)
+    go : Dec (p < d) → gap (hopTo p d) d + 1 ≡ gap p d
     go (yes l) = omega (arith, hop-up p d l)
     go (no l) = omega (arith, hop-down p d (omega arith))
 
@@ -116,7 +122,7 @@ step-hop p a d (down e) n = omega (arith, hop-down p d (omega arith))
 pub nearer-off : (p a d : ℕ) → gap a d + 1 ≡ gap p d → p ≢ d
 nearer-off p a d n e = omega (arith, gap-none e)
 
--- A hop towards a place on the map stays on it.
+-- A hop towards a place below n, from one, leads to one: so a hop stays on the map.
 pub hop-below : (p d n : ℕ) → p < n → d < n → hopTo p d < n
 hop-below p d n l m = go (decLt p d)
   where

@@ -28,9 +28,6 @@ module _ (w h : ℕ) (C : ℕ → ℕ → Type 0) (sx sy dx dy : ℕ) where
   abbrev InColumn : ℕ → ℕ → Type 0
   InColumn x y = Candidate w h C sx sy dx dy x y x (hopTo y dy)
 
-  candidate-at : {x y a b c d : ℕ} → a ≡ c → b ≡ d → Candidate w h C sx sy dx dy x y a b → Candidate w h C sx sy dx dy x y c d
-  candidate-at {x} {y} p q k = subst₂ (λ (i j : ℕ). Candidate w h C sx sy dx dy x y i j) p q k
-
   -- A candidate is one of the two.
   data OneOf (x y a b : ℕ) : Type 0 where
     by-row : InRow x y → a ≡ hopTo x dx → b ≡ y → OneOf x y a b
@@ -40,8 +37,8 @@ module _ (w h : ℕ) (C : ℕ → ℕ → Type 0) (sx sy dx dy : ℕ) where
   one-of {x} {y} {a} {b} k = go (candidate-toward w h C sx sy dx dy k)
     where
       go : Toward dx dy x y a b → OneOf x y a b
-      go (along-row n p q) = by-row (candidate-at p q k) p q
-      go (along-column n p q) = by-column (candidate-at p q k) p q
+      go (along-row n p q) = by-row (rw (p, q) at k) p q
+      go (along-column n p q) = by-column (rw (p, q) at k) p q
 
   -- The choice by what is a candidate: the one, the other, or a draw between the two.
   row-alone : {x y : ℕ} (z : ℕ) → InRow x y → ¬ InColumn x y → Chosen w h C sx sy dx dy x y z (hopTo x dx) y z

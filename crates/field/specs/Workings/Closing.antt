@@ -13,7 +13,7 @@ use Rattle.field.specs.Map.{On, number, at, Near, Apart}
 use Rattle.field.specs.Labels.{Closed, rock, between, Stable, RockOn, smallest}
 use Rattle.field.specs.Workings.Tests.{bit, bit-true, or-case, or-right, cond-cases}
 use Rattle.field.specs.Workings.Sheet.{Marked, Draws, lit, around, sheet, sheet-length, sheet-at, Crossing, crossing, number-lt}
-use Rattle.field.specs.Workings.Marks.{lit-marked, marked-lit, Two, around-two, two-around}
+use Rattle.field.specs.Workings.Marks.{lit-marked, marked-lit, Two, around-two, two-around, drawn-lit, lit-drawn, sheet-draws}
 unfoldable pub use Rattle.field.specs.Workings.MarkCount.{marks}
 use Rattle.field.specs.Workings.MarkCount.{Among, marks-le-length, marks-mono, marks-same}
 
@@ -126,17 +126,23 @@ module _ (w h : ℕ) where
         (λ f. until-good n (sweep w h s) (sweep-good s g))
 
     module _ (rocks : List ℕ) (D : Draws w h (RockOn R w h) rocks) where
+      -- The sheet that the sweeps start from draws the rocks.
+      start-draws : Draws w h (RockOn R w h) (sheet w h (lit rocks w h))
+      start-draws =
+          sheet-draws w h (RockOn R w h) (lit rocks w h) (λ x y o. lit-drawn w h (RockOn R w h) rocks D x y)
+          (λ x y k. (k .on, omega (arith, drawn-lit w h (RockOn R w h) rocks D x y k)))
+
       start-good : Good (sheet w h (lit rocks w h))
-      start-good =
-          record {
-            sound = λ x y m. let k = D .sound x y (lit-marked rocks w h x y (omega (arith, m .mark, sheet-at w h (lit rocks w h) x y (m .on)))) in rock (k .on) (k .stone);
-            keeps = λ x y k. record { on = k .on; mark = omega (arith, sheet-at w h (lit rocks w h) x y (k .on), marked-lit rocks w h x y (D .complete x y k)) };
-          }
+      start-good = record { sound = λ x y m. let k = start-draws .sound x y m in rock (k .on) (k .stone); keeps = start-draws .complete }
 
       -- What the sweeps come to draws the closed crossings, the smallest set.
       pub closing-draws : Draws w h (Closed R w h) (closing w h rocks)
       unfolding closing
-      closing-draws = record { sound = good .sound; complete = λ x y c. smallest R w h (Marked (until w h (h * w) start) w h) (λ x y o k. good .keeps x y (record { on = o; stone = k })) stable x y c }
+      closing-draws =
+          record {
+            sound = good .sound;
+            complete = smallest R w h (Marked (until w h (h * w) start) w h) (λ x y o k. good .keeps x y (record { on = o; stone = k })) stable;
+          }
         where
           start : List ℕ
           start = sheet w h (lit rocks w h)

@@ -46,7 +46,7 @@ every-one (suc n) f e k l = let both = and-split _ _ e in go (decLt k n) (both .
 pub every-two : (n m : ℕ) (f : ℕ → ℕ → Bool) → every n (λ y. every m (f y)) ≡ true → (x y : ℕ) → x < m → y < n → f y x ≡ true
 every-two n m f e x y p q = every-one m (f y) (every-one n (λ y. every m (f y)) e y q) x p
 
--- Where f tells P, and holds from low to high, and P ends there on both sides, that is the run of P.
+-- Where f tells P and holds from low to high, and P ends there on both sides, low to high is the run of P about low.
 every-run : (P : ℕ → Type 0) (f : ℕ → Bool) → ((u : ℕ) → f u ≡ true → P u) → (low high : ℕ) → low ≤ high
     → every (suc (high - low)) (λ k. f (low + k)) ≡ true → ((u : ℕ) → u + 1 ≡ low → ¬ P u) → ¬ P (high + 1) → Run P low
 every-run P f t low high l e below above =
@@ -66,18 +66,14 @@ rectangleOf s w h x₀ x₁ y₀ y₁ =
 
 module _ (w h : ℕ) (C : ℕ → ℕ → Type 0) (s : List ℕ) (D : Draws w h C s) where
   no-west-mark : (x y : ℕ) → ((a : ℕ) → a + 1 ≡ x → ¬ C a y) → westOf s w h x y ≡ 0
-  no-west-mark x y f = go (decLt 0 (westOf s w h x y))
-    where
-      go : Dec (0 < westOf s w h x y) → westOf s w h x y ≡ 0
-      go (yes l) = let m = west-mark s w h x y l in absurd (f (m .0) (m .1) (D .sound (m .0) y (m .2)))
-      go (no l) = omega arith
+  no-west-mark x y f =
+      let n : ¬ (0 < westOf s w h x y) = λ l. let m = west-mark s w h x y l in f (m .0) (m .1) (D .sound (m .0) y (m .2)) in
+      omega arith
 
   no-south-mark : (x y : ℕ) → ((b : ℕ) → b + 1 ≡ y → ¬ C x b) → southOf s w h x y ≡ 0
-  no-south-mark x y f = go (decLt 0 (southOf s w h x y))
-    where
-      go : Dec (0 < southOf s w h x y) → southOf s w h x y ≡ 0
-      go (yes l) = let m = south-mark s w h x y l in absurd (f (m .0) (m .1) (D .sound x (m .0) (m .2)))
-      go (no l) = omega arith
+  no-south-mark x y f =
+      let n : ¬ (0 < southOf s w h x y) = λ l. let m = south-mark s w h x y l in f (m .0) (m .1) (D .sound x (m .0) (m .2)) in
+      omega arith
 
   no-west : (x y : ℕ) → westOf s w h x y ≡ 0 → (a : ℕ) → a + 1 ≡ x → ¬ C a y
   no-west x y e a q c = omega (arith, west-at s w h x y a q, drawn-lit w h C s D a y c)

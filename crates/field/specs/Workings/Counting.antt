@@ -7,7 +7,8 @@ use Prim.Native.Nat.{ℕ, zero, suc, _<_}
 use native.Mathlib.Omega.{arith}
 use Rattle.field.specs.Map.{On}
 use Rattle.field.specs.Labels.{sumTo, one, count, Count}
-use Rattle.field.specs.Workings.Sheet.{Draws, bit, lit}
+use Rattle.field.specs.Workings.Tests.{bit}
+use Rattle.field.specs.Workings.Sheet.{Draws, lit}
 use Rattle.field.specs.Workings.Marks.{drawn-dec, drawn-lit, undrawn-lit}
 
 -- The sum of f over the map.

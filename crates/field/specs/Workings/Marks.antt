@@ -30,11 +30,7 @@ module _ (s : List ℕ) (w h : ℕ) where
   marked-lit x y m = simp (lt-ltb _ _ (m .on .in-x), lt-ltb _ _ (m .on .in-y), lt-ltb _ _ (m .mark))
 
   pub unmarked-lit : (x y : ℕ) → ¬ Marked s w h x y → lit s w h x y ≡ 0
-  unmarked-lit x y n = go (decLt 0 (lit s w h x y))
-    where
-      go : Dec (0 < lit s w h x y) → lit s w h x y ≡ 0
-      go (yes l) = absurd (n (lit-marked x y l))
-      go (no l) = omega arith
+  unmarked-lit x y n = let k : ¬ (0 < lit s w h x y) = λ l. n (lit-marked x y l) in omega arith
 
   pub marked-dec : (x y : ℕ) → Dec (Marked s w h x y)
   marked-dec x y = map-dec (lit-marked x y) (λ m. omega (arith, marked-lit x y m)) (decLt 0 (lit s w h x y))
