@@ -22,5 +22,6 @@ pub mod Reaching
 pub mod ReachLaws
 pub mod ChooserLaws
 pub mod ChoosingLaws
+pub mod SameLaws
 pub mod RowTests
 pub mod RowLaws
