@@ -1,0 +1,5 @@
+-- PBM map files as document 01 bounds them, in the order of the bytes.
+pub mod Header
+pub mod Raster
+pub mod File
+pub mod Written

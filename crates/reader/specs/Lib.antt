@@ -1,0 +1,2 @@
+-- What the map reader promises.
+pub mod Promise

@@ -1,0 +1,2 @@
+-- What the map writer promises.
+pub mod Promise
