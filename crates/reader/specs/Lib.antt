@@ -1,2 +1,0 @@
--- What the map reader promises.
-pub mod Promise
