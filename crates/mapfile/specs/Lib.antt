@@ -3,3 +3,5 @@ pub mod Header
 pub mod Raster
 pub mod File
 pub mod Written
+pub mod PlainLaws
+pub mod PackedLaws
