@@ -5,3 +5,4 @@ pub mod File
 pub mod Written
 pub mod PlainLaws
 pub mod PackedLaws
+pub mod WrittenLaws
