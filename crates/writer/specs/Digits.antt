@@ -4,12 +4,12 @@ use Prim.Native.Nat.{ℕ, zero, suc, _+_, _-_, _/_, _%_, _^_, _<_, _≤_}
 use Rattle.mapfile.specs.File.{raw-letters}
 
 -- A number from 1 on that three digits hold.
-pub record Short-number (v : ℕ) : Type 0 where
+pub record ShortNumber (v : ℕ) : Type 0 where
   pub some : 1 ≤ v
   pub short : v < 1000
 
 -- n digits hold the number, and n - 1 do not.
-pub record Digit-count (v n : ℕ) : Type 0 where
+pub record DigitCount (v n : ℕ) : Type 0 where
   pub some : 1 ≤ n
   pub few : n ≤ 3
   pub enough : v < 10 ^ n

@@ -10,21 +10,21 @@ use Rattle.mapfile.specs.Raster.{rowBytes}
 use Rattle.writer.specs.Promise.{Asked}
 
 -- The sheet has the whole row of w crossings from the number `from` on.
-pub record Row-in (s : List ℕ) (from w : ℕ) : Type 0 where
+pub record RowIn (s : List ℕ) (from w : ℕ) : Type 0 where
   pub whole : from + w ≤ length s
 
 -- And x is a column of the row.
-pub record Byte-in (s : List ℕ) (from w x : ℕ) : Type 0 where
+pub record ByteIn (s : List ℕ) (from w x : ℕ) : Type 0 where
   pub whole : from + w ≤ length s
   pub column : x < w
 
 -- The sheet has row y, and the output just the room for it.
-pub record Row-room (s : List ℕ) (w y : ℕ) (out : List ℕ) : Type 0 where
+pub record RowRoom (s : List ℕ) (w y : ℕ) (out : List ℕ) : Type 0 where
   pub whole : y * w + w ≤ length s
   pub room : length out ≡ rowBytes w
 
 -- The output has just the room for the map's rows.
-pub record Rows-room (w h : ℕ) (s out : List ℕ) : Type 0 where
+pub record RowsRoom (w h : ℕ) (s out : List ℕ) : Type 0 where
   pub asked : Asked w h s
   pub room : length out ≡ h * rowBytes w
 

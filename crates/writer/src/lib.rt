@@ -5,8 +5,8 @@ ghost use mathlib.Core.List.{_∷_, []};
 ghost use Prim.Native.Nat.{_≤_, _+_};
 ghost use lib.ListN.{length};
 ghost use Rattle.writer.specs.Promise.{Asked, Writes};
-ghost use Rattle.writer.specs.Digits.{Short-number, Digit-count, digitsOf, headerOf};
-ghost use Rattle.writer.specs.Packing.{Row-in, Byte-in, Row-room, Rows-room, rockBit, byteOf, rowOf, rowsOf};
+ghost use Rattle.writer.specs.Digits.{ShortNumber, DigitCount, digitsOf, headerOf};
+ghost use Rattle.writer.specs.Packing.{RowIn, ByteIn, RowRoom, RowsRoom, rockBit, byteOf, rowOf, rowsOf};
 
 // What writing comes to: so many bytes, or an output too short for the whole file.
 pub enum Wrote {
@@ -16,8 +16,8 @@ pub enum Wrote {
 
 // How many decimal digits a number has. The numbers here are widths and heights: a thousand is past every limit.
 fn digit_count(v: usize) -> usize
-    requires { ⌜ Short-number v ⌝ }
-    ensures { λ r. ⌜ Digit-count v r ⌝ }
+    requires { ⌜ ShortNumber v ⌝ }
+    ensures { λ r. ⌜ DigitCount v r ⌝ }
 {
     if v < 10 {
         return 1;
@@ -69,7 +69,7 @@ fn write_header(out: &mut [u8], w: usize, a: usize, h: usize, b: usize)
 
 // The bit of column x of a row of w crossings, the first of which has the number `from`: 1 at a rock, 0 at none and past the row's end.
 fn rock_bit(s: &[u8], from: usize, w: usize, x: usize) -> u8
-    requires { ⌜ Row-in (now s) from w ⌝ }
+    requires { ⌜ RowIn (now s) from w ⌝ }
     ensures { λ r. ⌜ r ≡ rockBit (now (s .entry)) from w x ⌝ }
 {
     if w <= x {
@@ -83,7 +83,7 @@ fn rock_bit(s: &[u8], from: usize, w: usize, x: usize) -> u8
 
 // Eight crossings of a row in a byte, from column x on, the westmost in the highest bit: each bit doubles those before it.
 fn pack(s: &[u8], from: usize, w: usize, x: usize) -> u8
-    requires { ⌜ Byte-in (now s) from w x ⌝ }
+    requires { ⌜ ByteIn (now s) from w x ⌝ }
     ensures { λ r. ⌜ r ≡ byteOf (now (s .entry)) from w x ⌝ }
 {
     let mut b: u8 = 0;
@@ -96,7 +96,7 @@ fn pack(s: &[u8], from: usize, w: usize, x: usize) -> u8
 
 // Row y of the map, packed, into its own part of the output.
 fn write_row(out: &mut [u8], s: &[u8], w: usize, y: usize)
-    requires { ⌜ Row-room (now s) w y (now out) ⌝ }
+    requires { ⌜ RowRoom (now s) w y (now out) ⌝ }
     ensures { λ _. ⌜ now (out .exit) ≡ rowOf (now (s .entry)) w y ⌝ }
 {
     let from = y * w;
@@ -107,7 +107,7 @@ fn write_row(out: &mut [u8], s: &[u8], w: usize, y: usize)
 
 // The packed rows, the northmost first: each is lent its own part of the output.
 fn write_rows(out: &mut [u8], s: &[u8], w: usize, h: usize)
-    requires { ⌜ Rows-room w h (now s) (now out) ⌝ }
+    requires { ⌜ RowsRoom w h (now s) (now out) ⌝ }
     ensures { λ _. ⌜ now (out .exit) ≡ rowsOf (now (s .entry)) w h ⌝ }
 {
     let row = (w + 7) / 8;
