@@ -7,7 +7,7 @@ use native.Mathlib.Omega.{arith}
 use native.Mathlib.Numerals.{add-one}
 use lib.ListN.{length, take, drop, set, length-append, length-drop, drop-of-length-le}
 use lib.Seq.{drop-cons, set-at, take-at, drop-at, drop-drop}
-use borrow.Rule.Slice.PartMut.{putMid, postOf, post-is}
+use borrow.Rule.Slice.PartMut.{midOf, putMid, postOf, post-is, mid-len}
 
 -- The first n elements are `front`, and the others are as they were in `before`.
 pub record Filled (front : List ℕ) (n : ℕ) (before after : List ℕ) : Type 0 where
@@ -17,6 +17,9 @@ pub record Filled (front : List ℕ) (n : ℕ) (before after : List ℕ) : Type 
 
 pub filled-none : (l : List ℕ) → Filled [] 0 l l
 filled-none l = record { size = refl; within = omega arith; is = refl }
+
+pub filled-as : (front other : List ℕ) (n m : ℕ) (before after : List ℕ) → Filled front n before after → front ≡ other → n ≡ m → Filled other m before after
+filled-as front other n m before after f p q = record { size = ap length (sym p) ∙ f .size ∙ q; within = omega (arith, f .within); is = rw (← p, ← q) (f .is) }
 
 module _ (front : List ℕ) (n : ℕ) (before after : List ℕ) (f : Filled front n before after) where
   pub filled-length : length after ≡ length before
@@ -37,11 +40,16 @@ module _ (front : List ℕ) (n : ℕ) (before after : List ℕ) (f : Filled fron
             ∙ sym (append-assoc front (v ∷ []) (drop (n + 1) before) ∙ ap (λ (m : ℕ). front ++ v ∷ drop m before) (add-one n));
       }
 
-  -- The part from n to e was lent, and is back as `part`.
-  pub filled-part : (e : ℕ) (part : List ℕ) → n ≤ e → e ≤ length before → length part ≡ e - n → Filled (front ++ part) e before (putMid n (e - n) after part)
+  -- The part from n to e, which is lent.
+  pub filled-lent : (e : ℕ) → e ≤ length before → length (midOf n (e - n) after) ≡ e - n
+  filled-lent e l = mid-len n e after (omega (arith, filled-length))
+
+  -- It is back as `part`.
+  pub filled-part : (e : ℕ) (part : List ℕ) → n ≤ e → e ≤ length before → length part ≡ length (midOf n (e - n) after)
+      → Filled (front ++ part) e before (putMid n (e - n) after part)
   filled-part e part h l m =
       record {
-        size = length-append front part ∙ omega (arith, f .size);
+        size = length-append front part ∙ omega (arith, f .size, m, filled-lent e l);
         within = l;
         is =
             ap (λ (k : List ℕ). putMid n (e - n) k part) (f .is)

@@ -61,7 +61,10 @@ module _ (f : ℕ → ℕ) (small : (x : ℕ) → f x ≤ 1) (x : ℕ) where
           let last : j ≡ n = omega arith in
           rw (place, bit-lowest whole, last) (omega (arith, small (x + n)))
 
--- Equally long pieces.
+-- Of n equally long pieces each ends within them all.
+pub piece-end : (r n m : ℕ) → r < n → r * m + m ≤ n * m
+piece-end r n m h = rw (suc-mul r m) at (mul-le-mul-right {m = suc r} {n = n} m h)
+
 pub pieces-more : (n : ℕ) (f : ℕ → List ℕ) → pieces (n + 1) f ≡ pieces n f ++ f n
 unfolding pieces
 pieces-more n f = rw add-one
@@ -79,8 +82,7 @@ module _ (f : ℕ → List ℕ) (m : ℕ) (long : (r : ℕ) → length (f r) ≡
     where
       go : Dec (r < n) → (r < n → getD (pieces n f) (r * m + k) 0 ≡ getD (f r) k 0) → getD (pieces n f ++ f n) (r * m + k) 0 ≡ getD (f r) k 0
       go (yes c) before =
-          let up : suc r * m ≤ n * m = mul-le-mul-right m c in
-          let up′ : r * m + m ≤ n * m = rw (suc-mul r m) at up in
+          let end : r * m + m ≤ n * m = piece-end r n m c in
           List·getD-append (pieces n f) (f n) 0 (r * m + k) (omega (arith, pieces-length n)) ∙ before c
       go (no c) before =
           let last : r ≡ n = omega arith in

@@ -1,9 +1,10 @@
 // The map writer: raw PBM, P4, from a sheet on which the rocks are stamped. The file's length comes first, so that an output too short is found
 // before a byte of it is touched. Then each piece of the file is written into its own part of the output.
 ghost use mathlib.Core.Path.{_≡_};
-ghost use mathlib.Core.List.{_∷_, []};
+ghost use mathlib.Core.List.{_∷_, [], _++_};
 ghost use Prim.Native.Nat.{_≤_, _+_};
 ghost use lib.ListN.{length};
+ghost use Rattle.mapfile.specs.File.{raw-letters};
 ghost use Rattle.writer.specs.Promise.{Asked, Writes};
 ghost use Rattle.writer.specs.Digits.{ShortNumber, DigitCount, digitsOf, headerOf};
 ghost use Rattle.writer.specs.Packing.{RowIn, ByteIn, RowRoom, RowsRoom, rockBit, byteOf, rowOf, rowsOf};
@@ -49,20 +50,28 @@ fn write_number(out: &mut [u8], v: usize)
     }
 }
 
-// The header: "P4", LF, width, space, height, LF. The slice has just its length; the width has a digits and the height b.
-fn write_header(out: &mut [u8], w: usize, a: usize, h: usize, b: usize)
-    requires { ⌜ length (now out) ≡ a + b + 5 ⌝ }
-    ensures { λ _. ⌜ now (out .exit) ≡ headerOf w a h b ⌝ }
+// The header's first three bytes: the letters and LF.
+fn write_letters(out: &mut [u8])
+    requires { ⌜ length (now out) ≡ 3 ⌝ }
+    ensures { λ _. ⌜ now (out .exit) ≡ raw-letters ++ 10 ∷ [] ⌝ }
 {
     let letters = b"P4";
     out[0] = letters[0];
     out[1] = letters[1];
     out[2] = b'\n';
+}
+
+// The header: "P4", LF, width, space, height, LF. The slice has just its length; the width has a digits and the height b.
+fn write_header(out: &mut [u8], w: usize, a: usize, h: usize, b: usize)
+    requires { ⌜ length (now out) ≡ a + b + 5 ⌝ }
+    ensures { λ _. ⌜ now (out .exit) ≡ headerOf w a h b ⌝ }
+{
     let space = 3 + a;
-    write_number(&mut out[3..space], w);
-    out[space] = b' ';
     let next = space + 1;
     let end = next + b;
+    write_letters(&mut out[0..3]);
+    write_number(&mut out[3..space], w);
+    out[space] = b' ';
     write_number(&mut out[next..end], h);
     out[end] = b'\n';
 }
@@ -112,7 +121,7 @@ fn write_rows(out: &mut [u8], s: &[u8], w: usize, h: usize)
 {
     let row = (w + 7) / 8;
     for r in 0..h {
-        let y = h - 1 - r;
+        let y = h - (r + 1);
         let a = r * row;
         let e = a + row;
         write_row(&mut out[a..e], s, w, y);
