@@ -1,14 +1,14 @@
 -- Packed bytes by their bits. Doubling a number and adding a bit moves its bits up by one; so a number below 2 ^ n is fixed by its n bits, a byte
 -- by eight, and packed rows by the rocks that they show.
-use mathlib.Core.Path.{_≡_, refl, sym, ap, _∙_}
-use mathlib.Core.List.{List, [], _∷_, _++_}
-use Prim.Native.Nat.{ℕ, zero, suc, _+_, _*_, _-_, _/_, _%_, _^_, _<_, _≤_}
+use mathlib.Core.Path.{_≡_, sym, ap, _∙_}
+use mathlib.Core.List.{List}
+use Prim.Native.Nat.{ℕ, zero, suc, _+_, _*_, _-_, _/_, _%_, _^_, _<_}
 use native.Mathlib.Omega.{arith}
 use native.Mathlib.Decide.{decLt}
-use native.Mathlib.Nat.{pow-suc, pow-zero, div-one}
+use native.Mathlib.Nat.{pow-suc, div-one}
 use native.Mathlib.Numerals.{one-add}
 use lib.Pow.{shr-shr}
-use lib.ListN.{length, getD}
+use lib.ListN.{getD}
 use lib.Seq.{ext-getD}
 use Rattle.field.specs.Map.{On}
 use Rattle.field.specs.Workings.Sheet.{Crossing, crossing}
@@ -30,7 +30,7 @@ bits-same (suc n) a b p q f =
     let v : b < 2 ^ n * 2 = rw (pow-suc 2 n) at q in
     let low : a % 2 ≡ b % 2 = sym (bit-lowest a) ∙ f 0 (omega arith) ∙ bit-lowest b in
     let high : a / 2 ≡ b / 2 =
-        bits-same n (a / 2) (b / 2) (omega arith) (omega arith) (λ k h. sym (bit-higher a k) ∙ f (suc k) (omega arith) ∙ bit-higher b k) in
+    bits-same n (a / 2) (b / 2) (omega arith) (omega arith) (λ k h. sym (bit-higher a k) ∙ f (suc k) (omega arith) ∙ bit-higher b k) in
     omega arith
 
 -- Bit j of a row's k-th byte, counted from the west, is the bit of column k * 8 + j.
@@ -53,6 +53,7 @@ module _ (w h : ℕ) (R : ℕ → ℕ → Type 0) (told : Told w h R) (l k : Lis
       rock : x < w → Dec (R x (h - (r + 1))) → packedBit w l r x ≡ packedBit w k r x
       rock c (yes m) = p .rock r x a c m ∙ sym (q .rock r x a c m)
       rock c (no m) = p .free r x a c m ∙ sym (q .free r x a c m)
+
       go : Dec (x < w) → packedBit w l r x ≡ packedBit w k r x
       go (yes c) = rock c (told x (h - (r + 1)) (record { in-x = c; in-y = omega arith }))
       go (no c) = p .pad r x a (omega arith) b ∙ sym (q .pad r x a (omega arith) b)

@@ -6,7 +6,7 @@ use Prim.Native.Nat.{ℕ, suc, _+_, _*_, _-_, _<_, _≤_}
 use native.Mathlib.Omega.{arith}
 use native.Mathlib.Decide.{decLt}
 use lib.ListN.{length, getD, take, drop, length-drop, take-append-drop}
-use lib.Seq.{getD-take, getD-drop, length-take-le}
+use lib.Seq.{getD-drop}
 use Rattle.mapfile.specs.Header.{Digit, Number, valueFrom}
 use Rattle.mapfile.specs.Written.{Plain}
 
@@ -58,15 +58,20 @@ plain-shortest v l k p q h = clash (value-same 0 (valueFrom 0 front) k back (q .
   where
     front : List ℕ
     front = take (length l - length k) l
+
     back : List ℕ
     back = drop (length l - length k) l
+
     size : length k ≡ length back
     size = sym (length-drop (length l - length k) l ∙ omega arith)
+
     digits : AllDigits back
     digits i m = rw (getD-drop (length l - length k) l i 0) (p .number .digits (length l - length k + i) (omega (arith, size)))
+
     same : valueFrom 0 k ≡ valueFrom (valueFrom 0 front) back
     same =
         sym (q .value) ∙ p .number .value ∙ ap (valueFrom 0) (sym (take-append-drop (length l - length k) l)) ∙ value-append 0 front back
+
     clash : 0 ≡ valueFrom 0 front → ⊥
     clash e = omega (arith, front-some l (length l - length k) (p .number .digits) (p .leading) (omega arith) (p .number .some), e)
 

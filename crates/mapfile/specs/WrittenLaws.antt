@@ -1,17 +1,17 @@
 -- What writing gives is one list of bytes, and a map by the grammar with the same crossings. The first holds as each piece has one form; the second
 -- as the pieces are the header and the raster of a P4 file.
-use mathlib.Core.Path.{_≡_, refl, sym, ap, _∙_}
+use mathlib.Core.Path.{_≡_, refl, sym, _∙_}
 use mathlib.Core.Logic.{_↔_}
 use mathlib.Core.List.{List, [], _∷_, _++_, append-assoc}
-use Prim.Native.Nat.{ℕ, zero, suc, _+_, _*_, _-_, _<_, _≤_}
+use Prim.Native.Nat.{ℕ, _+_, _*_, _-_}
 use native.Mathlib.Omega.{arith}
-use lib.ListN.{length, getD}
+use lib.ListN.{getD}
 use Rattle.field.specs.Map.{Sides, On}
 use Rattle.field.specs.Workings.Sheet.{sheet, sheet-length, sheet-at}
-use Rattle.mapfile.specs.Header.{Blank, feed, space, Items, no-items, blank-item, Separator, Number, Numbers, last-blank, next-number, Header}
+use Rattle.mapfile.specs.Header.{Blank, feed, space, no-items, blank-item, Separator, Number, Numbers, last-blank, next-number}
 use Rattle.mapfile.specs.Raster.{packedBit, RawRaster}
-use Rattle.mapfile.specs.File.{Format, raw, MapFile, FileRock, rasterPlace, raw-letters}
-use Rattle.mapfile.specs.Written.{Plain, PackedRows, Written}
+use Rattle.mapfile.specs.File.{raw, MapFile, FileRock, rasterPlace}
+use Rattle.mapfile.specs.Written.{PackedRows, Written}
 use Rattle.mapfile.specs.PlainLaws.{plain-one}
 use Rattle.mapfile.specs.PackedLaws.{Told, packed-one}
 
@@ -55,14 +55,19 @@ module _ (w h : ℕ) (R : ℕ → ℕ → Type 0) (rows : List ℕ) where
     where
       r : ℕ
       r = h - (y + 1)
+
       row : On w h x y → h - (r + 1) ≡ y
       row o = omega (arith, o .in-y)
+
       here : On w h x y → getD rowBits (r * w + x) 0 ≡ packedBit w rows r x
       here o = rows-raster p .bit r x (omega (arith, o .in-y)) (o .in-x)
+
       rock : On w h x y → R x y → packedBit w rows r x ≡ 1
       rock o m = p .rock r x (omega (arith, o .in-y)) (o .in-x) (rw (row o) m)
+
       free : On w h x y → ¬ R x y → packedBit w rows r x ≡ 0
       free o m = p .free r x (omega (arith, o .in-y)) (o .in-x) (λ n. m (rw (row o) at n))
+
       go : On w h x y → Dec (R x y) → getD rowBits (r * w + x) 0 ≡ 1 → R x y
       go o (yes m) e = m
       go o (no m) e = absurd (omega (arith, here o, free o m, e))
@@ -70,16 +75,19 @@ module _ (w h : ℕ) (R : ℕ → ℕ → Type 0) (rows : List ℕ) where
 -- What is written is a map by the grammar, and its rocks are the map's.
 pub written-map : (w h : ℕ) (R : ℕ → ℕ → Type 0) → Told w h R → (file : List ℕ) → Sides w h → Written w h R file
     → (bits : List ℕ) × MapFile file w h bits × ((x y : ℕ) → (FileRock w h bits x y ↔ (On w h x y × R x y)))
-written-map w h R told file sides p =
-    (rowBits w h R (p .rows), record {
-      format = raw;
-      after = 10 ∷ p .width ++ 32 ∷ p .height ++ 10 ∷ p .rows;
-      body = p .rows;
-      letters = p .is;
-      header = record { bytes = 10 ∷ p .width ++ (32 ∷ p .height ++ 10 ∷ []); numbers = header-numbers w h (p .width) (p .height) (p .width-is .number) (p .height-is .number); is = split (p .width) (p .height) (p .rows) };
-      sides = sides;
-      raster = rows-raster w h R (p .rows) (p .rows-are);
-    }, rows-rock w h R (p .rows) told (p .rows-are))
+written-map w h R told file sides p = (
+  rowBits w h R (p .rows),
+  record {
+    format = raw;
+    after = 10 ∷ p .width ++ 32 ∷ p .height ++ 10 ∷ p .rows;
+    body = p .rows;
+    letters = p .is;
+    header = record { bytes = 10 ∷ p .width ++ (32 ∷ p .height ++ 10 ∷ []); numbers = header-numbers w h (p .width) (p .height) (p .width-is .number) (p .height-is .number); is = split (p .width) (p .height) (p .rows) };
+    sides = sides;
+    raster = rows-raster w h R (p .rows) (p .rows-are);
+  },
+  rows-rock w h R (p .rows) told (p .rows-are),
+)
   where
     split : (a b c : List ℕ) → 10 ∷ a ++ 32 ∷ b ++ 10 ∷ c ≡ 10 ∷ a ++ (32 ∷ b ++ 10 ∷ []) ++ c
     split a b c = simp append-assoc

@@ -1,12 +1,12 @@
 -- A slice that is filled from the front: what is written so far, and behind it what stood there. Writing the next byte, or the next part once it is
 -- back, lengthens the front by it.
-use mathlib.Core.Path.{_≡_, refl, sym, ap, subst, _∙_}
+use mathlib.Core.Path.{_≡_, refl, sym, ap, _∙_}
 use mathlib.Core.List.{List, [], _∷_, _++_, append-assoc, append-nil}
 use Prim.Native.Nat.{ℕ, suc, _+_, _-_, _<_, _≤_}
 use native.Mathlib.Omega.{arith}
 use native.Mathlib.Numerals.{add-one}
-use lib.ListN.{length, take, drop, set, length-append, length-drop, drop-of-length-le}
-use lib.Seq.{drop-cons, set-at, take-at, drop-at, drop-drop}
+use lib.ListN.{length, drop, set, length-append, length-drop, drop-of-length-le}
+use lib.Seq.{drop-cons, set-at, take-at, drop-at}
 use borrow.Rule.Slice.PartMut.{midOf, putMid, postOf, post-is, mid-len}
 
 -- The first n elements are `front`, and the others are as they were in `before`.

@@ -1,5 +1,5 @@
 -- The digits that the code writes are the grammar's number without leading zeros: a digit more multiplies the value by ten and adds the digit.
-use mathlib.Core.Path.{_≡_, refl, sym, ap, subst, _∙_}
+use mathlib.Core.Path.{_≡_, refl, sym, _∙_}
 use mathlib.Core.List.{List, [], _∷_, _++_}
 use Prim.Native.Nat.{ℕ, zero, suc, _+_, _*_, _-_, _/_, _%_, _^_, _<_, _≤_}
 use native.Mathlib.Omega.{arith}
@@ -7,7 +7,7 @@ use native.Mathlib.Decide.{decLt}
 use native.Mathlib.Nat.{pow-suc}
 use lib.ListN.{length, getD, length-append, List·getD-append}
 use lib.Seq.{getD-at}
-use Rattle.mapfile.specs.Header.{Digit, Number, valueFrom, most-digits}
+use Rattle.mapfile.specs.Header.{Digit, valueFrom, most-digits}
 use Rattle.mapfile.specs.Written.{Plain}
 use Rattle.mapfile.specs.PlainLaws.{AllDigits, value-append}
 use Rattle.writer.specs.Digits.{DigitCount, digitsOf}
@@ -23,6 +23,7 @@ digits-more l d p q k h = go (decLt k (length l))
   where
     size : length (l ++ d ∷ []) ≡ suc (length l)
     size = length-append l (d ∷ []) ∙ omega arith
+
     go : Dec (k < length l) → Digit (getD (l ++ d ∷ []) k 0)
     go (yes m) = rw (List·getD-append l (d ∷ []) 0 k m) (p k m)
     go (no m) = rw (getD-at l d [] 0 k (omega (arith, size))) q

@@ -1,15 +1,15 @@
 -- One outcome: two that the promise allows for the same input are equal, in the answer and in every byte of the output. For the file is one list of
 -- bytes, and either it fits or it does not.
 use mathlib.Core.Path.{_≡_, refl, sym, ap, _∙_}
-use mathlib.Core.List.{List, _++_}
-use Prim.Native.Nat.{ℕ, _<_, _≤_}
+use mathlib.Core.List.{List}
+use Prim.Native.Nat.{ℕ}
 use native.Mathlib.Omega.{arith}
-use lib.ListN.{length, drop}
+use lib.ListN.{length}
 use Rattle.field.specs.Workings.Sheet.{Marked}
 use Rattle.field.specs.Workings.Marks.{marked-dec}
 use Rattle.mapfile.specs.Written.{Written}
 use Rattle.mapfile.specs.WrittenLaws.{written-one}
-use Rattle.writer.specs.Promise.{Writes, Put, NoRoom}
+use Rattle.writer.specs.Promise.{Writes}
 use Rattle.writer.specs.declared.Wrote.{Wrote}
 use Rattle.writer.specs.declared.Wrote.the-variants.{Bytes, Short}
 

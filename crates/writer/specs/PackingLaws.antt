@@ -51,6 +51,7 @@ module _ (f : ℕ → ℕ) (small : (x : ℕ) → f x ≤ 1) (x : ℕ) where
     where
       whole : ℕ
       whole = packed f x n * 2 + f (x + n)
+
       go : Dec (j < n) → (j < n → packed f x n / 2 ^ (n - (j + 1)) % 2 ≡ f (x + j)) → whole / 2 ^ (suc n - (j + 1)) % 2 ≡ f (x + j)
       go (yes m) before =
           let place : suc n - (j + 1) ≡ suc (n - (j + 1)) = omega arith in

@@ -2,16 +2,16 @@
 -- and row r stands r rows from the north.
 use mathlib.Core.Path.{_≡_, refl, sym, ap, _∙_}
 use mathlib.Core.List.{List, [], _∷_}
-use Prim.Native.Nat.{ℕ, _+_, _*_, _-_, _/_, _%_, _^_, _<_, _≤_}
+use Prim.Native.Nat.{ℕ, _+_, _*_, _-_, _/_, _%_, _^_, _<_}
 use native.Mathlib.Omega.{arith}
 use native.Mathlib.Decide.{decLt}
 use lib.ListN.{length, getD, List·getD-eq-default}
-use Rattle.field.specs.Map.{On, at}
+use Rattle.field.specs.Map.{at}
 use Rattle.field.specs.Workings.Sheet.{Marked, Crossing, crossing}
 use Rattle.mapfile.specs.Raster.{rowBytes, packedBit}
 use Rattle.mapfile.specs.Written.{PackedRows}
 use Rattle.mapfile.specs.PackedLaws.{packed-at}
-use Rattle.writer.specs.Packing.{rockBit, packed, byteOf, pieces, rowOf, rowsOf}
+use Rattle.writer.specs.Packing.{rockBit, byteOf, rowOf, rowsOf}
 use Rattle.writer.specs.PackingLaws.{rock-bit-marked, rock-bit-bare, rock-bit-past, rock-bit-small, packed-lt, packed-bit, pieces-length, pieces-at}
 
 pub byte-lt : (s : List ℕ) (from w x : ℕ) → byteOf s from w x < 256
@@ -52,6 +52,7 @@ module _ (s : List ℕ) (w h : ℕ) where
       byte : Crossing (rowBytes w) h i → getD (rowsOf s w h) i 0 < 256
       byte c =
           rw (← c .is, rows-byte (c .y) (c .x) (c .on .in-y) (c .on .in-x)) (byte-lt s ((h - (c .y + 1)) * w) w (c .x * 8))
+
       go : Dec (i < h * rowBytes w) → getD (rowsOf s w h) i 0 < 256
       go (yes m) = byte (crossing (rowBytes w) h i m)
       go (no m) = omega (arith, List·getD-eq-default (rowsOf s w h) 0 {n = i} (omega (arith, rows-length)))
@@ -65,7 +66,7 @@ module _ (s : List ℕ) (w h : ℕ) where
       let from = (h - (r + 1)) * w in
       let bit = packed-at w (rowsOf s w h) r (x / 8) (x % 8) j in
       let byte : getD (rowsOf s w h) (r * rowBytes w + x / 8) 0 / 2 ^ (7 - x % 8) % 2 ≡ byteOf s from w (x / 8 * 8) / 2 ^ (7 - x % 8) % 2 =
-          ap (λ (n : ℕ). n / 2 ^ (7 - x % 8) % 2) (rows-byte r (x / 8) a k) in
+      ap (λ (n : ℕ). n / 2 ^ (7 - x % 8) % 2) (rows-byte r (x / 8) a k) in
       ap (packedBit w (rowsOf s w h) r) (sym split) ∙ bit ∙ byte ∙ byte-bit s from w (x / 8 * 8) (x % 8) j ∙ ap (rockBit s from w) split
 
   -- A column of the map is within the row's bytes.

@@ -34,7 +34,7 @@ fn digit(d: usize) -> u8
     requires { ⌜ d ≤ 9 ⌝ }
     ensures { λ r. ⌜ r ≡ 48 + d ⌝ }
 {
-    48 + d as u8
+    b'0' + d as u8
 }
 
 // Fills the slice with the lowest digits of a number, as many as it has room for, from its end.
@@ -82,7 +82,7 @@ fn rock_bit(s: &[u8], from: usize, w: usize, x: usize) -> u8
     ensures { λ r. ⌜ r ≡ rockBit (now (s .entry)) from w x ⌝ }
 {
     if w <= x {
-        return 0;
+        return 0; // a pad bit
     }
     if s[from + x] == 0 {
         return 0;

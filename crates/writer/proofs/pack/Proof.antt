@@ -2,16 +2,13 @@
 use Prim.Native.Nat.{ℕ, _+_, _*_, _-_, _^_, _≤_, _<_}
 use native.Mathlib.Omega.{arith}
 use native.Mathlib.Numerals.{add-one}
-use mathlib.Core.Path.{_≡_, refl, sym, ap, _∙_}
+use mathlib.Core.Path.{_≡_, refl, ap, _∙_}
 use mathlib.Core.List.{List}
 use lib.Pow.{pow-mono}
 use Rattle.writer.specs.Packing.{packed, rockBit, byteOf}
 use Rattle.writer.specs.PackingLaws.{packed-lt, rock-bit-small}
 use Rattle.writer.proofs.pack.Statement.{statement}
 use Rattle.writer.proofs.pack.Tie as tie
-use Rattle.writer.proofs.pack.Reads as reads
-use Rattle.writer.proofs.pack.Lts as lts
-use Rattle.writer.proofs.rock_bit.Reads as rock-bit-reads
 
 abbrev Inv-loop : tie.InvT-loop
 Inv-loop s from w x b₀ j₀ b j = (j ≤ 8) × (b ≡ packed (rockBit s from w) x j)

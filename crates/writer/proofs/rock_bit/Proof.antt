@@ -1,14 +1,12 @@
 -- `rock_bit` meets its contract: each of the three ways out is a case of the bit.
 use borrow.Author.Needs.{needs}
 use native.Mathlib.Omega.{arith}
-use Prim.Native.Nat.{ℕ, _+_, _<_}
+use Prim.Native.Nat.{_+_}
 use mathlib.Core.Path.{_≡_, sym}
 use lib.ListN.{getD}
 use Rattle.writer.specs.PackingLaws.{rock-bit-marked, rock-bit-bare, rock-bit-past}
 use Rattle.writer.proofs.rock_bit.Statement.{statement}
 use Rattle.writer.proofs.rock_bit.Tie as tie
-use Rattle.writer.proofs.rock_bit.Reads as reads
-use Rattle.writer.proofs.rock_bit.Lts as lts
 
 returns : tie.Need-returns
 returns c = sym (rock-bit-past (c .before .args .s .now) (c .before .args .from) (c .before .args .w) (c .before .args .x) (omega arith))

@@ -1,26 +1,20 @@
 -- `write` meets its promise: header and rows fill the output from the front, and together they are the file.
-use Prim.Native.Nat.{ℕ, _+_, _*_, _-_, _/_, _≤_, _<_}
+use Prim.Native.Nat.{ℕ, _+_, _*_, _-_, _/_, _≤_}
 use native.Mathlib.Omega.{arith}
 use native.Mathlib.Nat.{mul-le-mul-left}
-use mathlib.Core.Path.{_≡_, refl, sym, ap, _∙_}
-use mathlib.Core.List.{List, [], _∷_, _++_}
-use lib.ListN.{length, drop}
+use mathlib.Core.Path.{_≡_, refl, sym, _∙_}
+use mathlib.Core.List.{List, []}
+use lib.ListN.{length}
 use borrow.Rule.Slice.PartMut.{midOf, putMid}
 use Rattle.field.specs.Map.{side}
 use Rattle.mapfile.specs.Raster.{rowBytes}
-use Rattle.writer.specs.Digits.{ShortNumber, headerOf}
-use Rattle.writer.specs.Packing.{rowsOf}
+use Rattle.writer.specs.Digits.{ShortNumber}
 use Rattle.writer.specs.PackingLaws.{piece-end}
 use Rattle.writer.specs.FileLaws.{fileOf, file-length, file-written}
-use Rattle.writer.proofs.Filling.{Filled, filled-none, filled-length, filled-all, filled-lent, filled-part}
+use Rattle.writer.proofs.Filling.{Filled, filled-none, filled-lent, filled-part}
 use borrow.Author.Needs.{needs}
 use Rattle.writer.proofs.write.Statement.{statement}
 use Rattle.writer.proofs.write.Tie as tie
-use Rattle.writer.proofs.write.Reads as reads
-use Rattle.writer.proofs.write.Lts as lts
-use Rattle.writer.proofs.digit_count.Reads as digit-count-reads
-use Rattle.writer.proofs.write_header.Reads as write-header-reads
-use Rattle.writer.proofs.write_rows.Reads as write-rows-reads
 
 -- A side is a short number: a thousand is past the limit.
 side-short : (v : ℕ) → 1 ≤ v → v ≤ side → ShortNumber v

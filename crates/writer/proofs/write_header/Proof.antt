@@ -1,7 +1,7 @@
 -- `write_header` meets its contract: the slice is filled from the front, part by part and byte by byte, and each piece is the next of the header.
-use Prim.Native.Nat.{ℕ, _+_, _-_, _≤_, _<_}
+use Prim.Native.Nat.{ℕ, _+_, _-_}
 use native.Mathlib.Omega.{arith}
-use mathlib.Core.Path.{_≡_, refl, sym, ap, _∙_}
+use mathlib.Core.Path.{_≡_, ap, _∙_}
 use mathlib.Core.List.{List, [], _∷_, _++_, append-assoc}
 use lib.ListN.{length, set, length-set}
 use borrow.Rule.Slice.PartMut.{midOf, putMid}
@@ -11,10 +11,6 @@ use Rattle.writer.proofs.Filling.{Filled, filled-none, filled-length, f
 use borrow.Author.Needs.{needs}
 use Rattle.writer.proofs.write_header.Statement.{statement}
 use Rattle.writer.proofs.write_header.Tie as tie
-use Rattle.writer.proofs.write_header.Reads as reads
-use Rattle.writer.proofs.write_header.Lts as lts
-use Rattle.writer.proofs.write_letters.Reads as write-letters-reads
-use Rattle.writer.proofs.write_number.Reads as write-number-reads
 
 -- The slice as it is after each piece: l stands where the letters go, p where the width goes, q where the height goes.
 abbrev lettered : List ℕ → List ℕ → List ℕ
@@ -30,7 +26,7 @@ abbrev heighted : List ℕ → List ℕ → List ℕ → List ℕ → ℕ → �
 heighted xs l p q a b = putMid (3 + a + 1) (3 + a + 1 + b - (3 + a + 1)) (spaced xs l p a) q
 
 module _ (xs l p : List ℕ) (a b : ℕ) (size : length xs ≡ a + b + 5)
-  (kept-l : length l ≡ length (midOf 0 3 xs)) (kept-p : length p ≡ length (midOf 3 (3 + a - 3) (lettered xs l))) where
+    (kept-l : length l ≡ length (midOf 0 3 xs)) (kept-p : length p ≡ length (midOf 3 (3 + a - 3) (lettered xs l))) where
   filled-letters : Filled l 3 xs (lettered xs l)
   filled-letters = filled-part [] 0 xs xs (filled-none xs) 3 l (omega arith) (omega arith) kept-l
 
@@ -62,7 +58,7 @@ module _ (xs l p : List ℕ) (a b : ℕ) (size : length xs ≡ a + b + 5)
 pieces-header : (w a h b : ℕ) (l p q : List ℕ) → l ≡ raw-letters ++ 10 ∷ [] → p ≡ digitsOf a w → q ≡ digitsOf b h
     → l ++ p ++ 32 ∷ [] ++ q ++ 10 ∷ [] ≡ headerOf w a h b
 unfolding headerOf
-pieces-header w a h b l p q d e f = 
+pieces-header w a h b l p q d e f =
     rw (d, e, f) (ap (λ (k : List ℕ). k ++ 10 ∷ []) (append-assoc (raw-letters ++ 10 ∷ digitsOf a w) (32 ∷ []) (digitsOf b h)))
 
 add-space : tie.Need-add-space

@@ -4,12 +4,10 @@ use native.Mathlib.Omega.{arith}
 use mathlib.Core.Path.{_≡_, sym}
 use mathlib.Core.List.{List, [], _∷_}
 use lib.ListN.{length, set}
-use Rattle.writer.proofs.Filling.{Filled, filled-none, filled-all, filled-byte}
+use Rattle.writer.proofs.Filling.{filled-none, filled-all, filled-byte}
 use borrow.Author.Needs.{needs}
 use Rattle.writer.proofs.write_letters.Statement.{statement}
 use Rattle.writer.proofs.write_letters.Tie as tie
-use Rattle.writer.proofs.write_letters.Reads as reads
-use Rattle.writer.proofs.write_letters.Lts as lts
 
 -- A slice of three bytes after three stores.
 letters-put : (out : List ℕ) (u v n : ℕ) → length out ≡ 3 → set (set (set out 0 u) 1 v) 2 n ≡ u ∷ v ∷ n ∷ []

@@ -1,5 +1,5 @@
 -- `write_number` meets its contract: the k lowest digits of the rest, with what stands from k on, are always the digits of the number.
-use Prim.Native.Nat.{ℕ, zero, suc, _+_, _*_, _-_, _/_, _%_, _≤_, _<_}
+use Prim.Native.Nat.{ℕ, zero, suc, _+_, _-_, _/_, _%_, _≤_, _<_}
 use native.Mathlib.Omega.{arith}
 use mathlib.Core.Path.{_≡_, refl, sym, ap, _∙_}
 use mathlib.Core.List.{List, [], _∷_, _++_, append-assoc, append-nil}
@@ -8,9 +8,6 @@ use lib.Seq.{drop-length, drop-cons, drop-set-lt, getD-set-same}
 use Rattle.writer.specs.Digits.{digitsOf}
 use Rattle.writer.proofs.write_number.Statement.{statement}
 use Rattle.writer.proofs.write_number.Tie as tie
-use Rattle.writer.proofs.write_number.Reads as reads
-use Rattle.writer.proofs.write_number.Lts as lts
-use Rattle.writer.proofs.digit.Reads as digit-reads
 
 abbrev Inv-loop : tie.InvT-loop
 Inv-loop out₀ v k₀ rest₀ out k rest = (k ≤ length out₀) × (length out ≡ length out₀) × (digitsOf k rest ++ drop k out ≡ digitsOf (length out₀) v)
@@ -50,9 +47,11 @@ loop-again : tie.Need-loop-again Inv-loop μ-loop
 loop-again c =
     let l = c .before .before .loop in
     let some : 0 < l .k = omega arith in
-    let within : l .k ≤ length (l .out) = omega arith in
-    (omega arith, length-set (l .out) (l .k - 1) (c .digit .result) ∙ l .inv .1,
-    digit-put (l .out) (l .k) (l .rest) (c .digit .result) some within (c .digit .ensures) ∙ l .inv .2)
+    let within : l .k ≤ length (l .out) = omega arith in (
+      omega arith,
+      length-set (l .out) (l .k - 1) (c .digit .result) ∙ l .inv .1,
+      digit-put (l .out) (l .k) (l .rest) (c .digit .result) some within (c .digit .ensures) ∙ l .inv .2,
+    )
 
 same-length : tie.Need-same-length Inv-loop μ-loop
 same-length c = c .before .loop .inv .1

@@ -1,8 +1,8 @@
 -- `write_row` meets its contract: after k turns the first k bytes of the row stand at the front of its part.
-use Prim.Native.Nat.{ℕ, _+_, _*_, _-_, _≤_, _<_}
+use Prim.Native.Nat.{ℕ, _*_, _-_}
 use native.Mathlib.Omega.{arith}
-use mathlib.Core.Path.{_≡_, refl, sym, ap, _∙_}
-use mathlib.Core.List.{List, [], _∷_, _++_}
+use mathlib.Core.Path.{_≡_, ap, _∙_}
+use mathlib.Core.List.{List, [], _∷_}
 use lib.ListN.{length}
 use Rattle.mapfile.specs.Raster.{rowBytes}
 use Rattle.writer.specs.Packing.{byteOf, pieces, rowOf}
@@ -10,9 +10,6 @@ use Rattle.writer.specs.PackingLaws.{pieces-more}
 use Rattle.writer.proofs.Filling.{Filled, filled-none, filled-length, filled-all, filled-byte}
 use Rattle.writer.proofs.write_row.Statement.{statement}
 use Rattle.writer.proofs.write_row.Tie as tie
-use Rattle.writer.proofs.write_row.Reads as reads
-use Rattle.writer.proofs.write_row.Lts as lts
-use Rattle.writer.proofs.pack.Reads as pack-reads
 
 abbrev Inv-loop : tie.InvT-loop
 Inv-loop out₀ s w y from k₀ k-end out k = Filled (pieces k (λ i. byteOf s (y * w) w (i * 8) ∷ [])) k out₀ out

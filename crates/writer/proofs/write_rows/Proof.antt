@@ -1,10 +1,10 @@
 -- `write_rows` meets its contract: after r turns the r northmost rows stand at the front.
-use Prim.Native.Nat.{ℕ, _+_, _*_, _-_, _/_, _≤_, _<_}
+use Prim.Native.Nat.{ℕ, _+_, _*_, _-_, _/_, _≤_}
 use native.Mathlib.Omega.{arith}
 use native.Mathlib.Nat.{suc-mul}
 use native.Mathlib.Numerals.{add-one}
 use mathlib.Core.Path.{_≡_, refl, sym, ap, _∙_}
-use mathlib.Core.List.{List, [], _∷_, _++_}
+use mathlib.Core.List.{List, [], _++_}
 use lib.ListN.{length}
 use Rattle.mapfile.specs.Raster.{rowBytes}
 use Rattle.writer.specs.Packing.{pieces, rowOf, rowsOf}
@@ -12,9 +12,6 @@ use Rattle.writer.specs.PackingLaws.{piece-end, pieces-more}
 use Rattle.writer.proofs.Filling.{Filled, filled-as, filled-none, filled-length, filled-all, filled-lent, filled-part}
 use Rattle.writer.proofs.write_rows.Statement.{statement}
 use Rattle.writer.proofs.write_rows.Tie as tie
-use Rattle.writer.proofs.write_rows.Reads as reads
-use Rattle.writer.proofs.write_rows.Lts as lts
-use Rattle.writer.proofs.write_row.Reads as write-row-reads
 
 abbrev Inv-loop : tie.InvT-loop
 Inv-loop out₀ s w h row r₀ out r = (r ≤ h) × Filled (pieces r (λ i. rowOf s w (h - (i + 1)))) (r * row) out₀ out
@@ -94,10 +91,10 @@ loop-again c =
     let part = c .before .before .write-row .last .0 in
     let row = (a .w + 7) / 8 in
     let put =
-        filled-part (pieces (l .r) f) (l .r * row) (a .out .now) (l .out) (l .inv .1) (l .r * row + row) part (omega arith)
-        (row-ends (c .before .before .before .before)) (c .before .before .write-row .kept .0) in
+    filled-part (pieces (l .r) f) (l .r * row) (a .out .now) (l .out) (l .inv .1) (l .r * row + row) part (omega arith)
+    (row-ends (c .before .before .before .before)) (c .before .before .write-row .kept .0) in
     let more : pieces (l .r) f ++ part ≡ pieces (l .r + 1) f =
-        ap (λ (k : List ℕ). pieces (l .r) f ++ k) (c .before .before .write-row .ensures) ∙ sym (pieces-more (l .r) f) in
+    ap (λ (k : List ℕ). pieces (l .r) f ++ k) (c .before .before .write-row .ensures) ∙ sym (pieces-more (l .r) f) in
     (omega arith, filled-as (pieces (l .r) f ++ part) (pieces (l .r + 1) f) (l .r * row + row) ((l .r + 1) * row) (a .out .now) _ put more (next (l .r) row))
 
 same-length : tie.Need-same-length Inv-loop μ-loop
@@ -113,7 +110,7 @@ returns c =
     let f : ℕ → List ℕ = λ i. rowOf (a .s .now) (a .w) (a .h - (i + 1)) in
     let all : l .r ≡ a .h = omega (arith, l .inv .0) in
     let full : l .r * ((a .w + 7) / 8) ≡ length (a .out .now) =
-        ap (λ (r : ℕ). r * ((a .w + 7) / 8)) all ∙ sym (c .before .before .before .before .pre .room) in
+    ap (λ (r : ℕ). r * ((a .w + 7) / 8)) all ∙ sym (c .before .before .before .before .pre .room) in
     filled-all (pieces (l .r) f) (l .r * ((a .w + 7) / 8)) (a .out .now) (l .out) (l .inv .1) full ∙ ap (λ (n : ℕ). pieces n f) all
 
 pub write-rows-spec : {M : Type 1} → statement M
