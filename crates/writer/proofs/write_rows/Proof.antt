@@ -20,7 +20,10 @@ abbrev μ-loop : tie.MeasureT-loop
 μ-loop out₀ s w h row r₀ out r = h - r
 
 -- The next row ends within the rows' room.
-row-ends : (c : tie.In-loop Inv-loop μ-loop) → c .before .loop .r * ((c .before .before .before .before .args .w + 7) / 8) + (c .before .before .before .before .args .w + 7) / 8 ≤ length (c .before .before .before .before .args .out .now)
+row-ends : (c : tie.In-loop Inv-loop μ-loop) →
+    let a = c .before .before .before .before .args in
+    let row = (a .w + 7) / 8 in
+    c .before .loop .r * row + row ≤ length (a .out .now)
 unfolding rowBytes
 row-ends c =
     let a = c .before .before .before .before .args in
@@ -65,6 +68,7 @@ part-write-row-end c =
     let l = c .before .loop in
     omega (arith, row-ends c, filled-length _ _ _ (l .out) (l .inv .1))
 
+-- The sheet has row y whole, and so it has row r: a slip between the two is refused by what stands written, not here.
 write-row-requires : tie.Need-write-row-requires Inv-loop μ-loop
 unfolding rowBytes
 write-row-requires c κs =
@@ -73,7 +77,7 @@ write-row-requires c κs =
     let l = c .before .before .loop in
     let row = (a .w + 7) / 8 in
     record {
-      whole = omega (arith, piece-end (a .h - (l .r + 1)) (a .h) (a .w) (omega arith), p .asked .size);
+      whole = omega (arith, piece-end (a .h - (l .r + 1)) (a .h) (a .w) (omega arith), piece-end (l .r) (a .h) (a .w) (omega arith), p .asked .size);
       room = filled-lent _ (l .r * row) (a .out .now) (l .out) (l .inv .1) (l .r * row + row) (row-ends (c .before)) ∙ omega arith;
     }
 
