@@ -1,0 +1,2 @@
+-- Laws of lists that the functions' proofs share.
+pub mod Filling

@@ -1,0 +1,25 @@
+-- Numbers and the header as the code writes them, computed. That these are the grammar's numbers and header stands in DigitLaws.
+use mathlib.Core.List.{List, [], _∷_, _++_}
+use Prim.Native.Nat.{ℕ, zero, suc, _+_, _-_, _/_, _%_, _^_, _<_, _≤_}
+use Rattle.mapfile.specs.File.{raw-letters}
+
+-- A number from 1 on that three digits hold.
+pub record ShortNumber (v : ℕ) : Type 0 where
+  pub some : 1 ≤ v
+  pub short : v < 1000
+
+-- n digits hold the number, and n - 1 do not.
+pub record DigitCount (v n : ℕ) : Type 0 where
+  pub some : 1 ≤ n
+  pub few : n ≤ 3
+  pub enough : v < 10 ^ n
+  pub needed : 10 ^ (n - 1) ≤ v
+
+-- The n lowest decimal digits of v, the highest first.
+unfoldable pub digitsOf : ℕ → ℕ → List ℕ
+digitsOf zero v = []
+digitsOf (suc n) v = digitsOf n (v / 10) ++ (48 + v % 10) ∷ []
+
+-- The header: letters, LF, a digits of the width, space, b digits of the height, LF.
+unfoldable pub headerOf : ℕ → ℕ → ℕ → ℕ → List ℕ
+headerOf w a h b = raw-letters ++ 10 ∷ digitsOf a w ++ 32 ∷ digitsOf b h ++ 10 ∷ []

@@ -1,0 +1,40 @@
+-- Header and rows together are the whole file of the promise, and its length is the one that the code works out first.
+use mathlib.Core.Path.{_≡_, _∙_}
+use mathlib.Core.List.{List, [], _∷_, _++_, append-assoc}
+use Prim.Native.Nat.{ℕ, _+_, _*_}
+use native.Mathlib.Omega.{arith}
+use lib.ListN.{length, length-append}
+use Rattle.field.specs.Workings.Sheet.{Marked}
+use Rattle.mapfile.specs.Raster.{rowBytes}
+use Rattle.mapfile.specs.File.{raw-letters}
+use Rattle.mapfile.specs.Written.{Written}
+use Rattle.writer.specs.Digits.{DigitCount, digitsOf, headerOf}
+use Rattle.writer.specs.DigitLaws.{digits-length, digits-plain}
+use Rattle.writer.specs.Packing.{rowsOf}
+use Rattle.writer.specs.RowLaws.{rows-length, rows-packed}
+
+-- The whole file, where the width has a digits and the height b.
+unfoldable pub fileOf : List ℕ → ℕ → ℕ → ℕ → ℕ → List ℕ
+fileOf s w a h b = headerOf w a h b ++ rowsOf s w h
+
+pub header-length : (w a h b : ℕ) → length (headerOf w a h b) ≡ a + b + 5
+unfolding headerOf
+header-length w a h b =
+    simp (length-append, digits-length) (omega arith)
+
+pub file-length : (s : List ℕ) (w a h b : ℕ) → length (fileOf s w a h b) ≡ a + b + 5 + h * rowBytes w
+unfolding fileOf
+file-length s w a h b = length-append (headerOf w a h b) (rowsOf s w h) ∙ omega (arith, header-length w a h b, rows-length s w h)
+
+pub file-written : (s : List ℕ) (w a h b : ℕ) → DigitCount w a → DigitCount h b → Written w h (Marked s w h) (fileOf s w a h b)
+unfolding fileOf headerOf
+file-written s w a h b p q =
+    record {
+      width = digitsOf a w;
+      height = digitsOf b h;
+      rows = rowsOf s w h;
+      width-is = digits-plain w a p;
+      height-is = digits-plain h b q;
+      rows-are = rows-packed s w h;
+      is = append-assoc (raw-letters ++ 10 ∷ digitsOf a w ++ 32 ∷ digitsOf b h) (10 ∷ []) (rowsOf s w h);
+    }

@@ -1,0 +1,9 @@
+-- What the map writer promises and what that comes to; then what its functions compute on the way, and why that is the promise.
+pub mod Promise
+pub mod Outcome
+pub mod Digits
+pub mod Packing
+pub mod DigitLaws
+pub mod PackingLaws
+pub mod RowLaws
+pub mod FileLaws
