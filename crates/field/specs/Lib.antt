@@ -1,4 +1,5 @@
--- What document 01 defines. Meanings come first: relations in the document's words. Workings compute, and each agrees with its meaning.
+-- What document 01 defines. The eight modules first named are meanings: relations in the document's words, which a reader must believe.
+-- Workings compute, and each agrees with its meaning. The table holds the settled examples.
 pub mod Map
 pub mod Refusals
 pub mod Labels
@@ -7,12 +8,5 @@ pub mod Distances
 pub mod Hops
 pub mod Drives
 pub mod Chooser
-pub mod Sheet
-pub mod Marks
-pub mod Closing
-pub mod Stamping
-pub mod Labelling
-pub mod Counting
+pub mod Workings
 pub mod Table
-pub mod Looking
-pub mod Reaching

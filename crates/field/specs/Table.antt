@@ -13,8 +13,8 @@ use Rattle.field.specs.Groups.{Linked, Groups}
 use Rattle.field.specs.Distances.{Way, Clear, Distances, Assured}
 use Rattle.field.specs.Drives.{ShortestDrive, HasDrive, InRegion}
 use Rattle.field.specs.Chooser.{Driven}
-use Rattle.field.specs.Sheet.{bit, sheet}
-use Rattle.field.specs.Stamping.{rockOf}
+use Rattle.field.specs.Workings.Sheet.{bit, sheet}
+use Rattle.field.specs.Workings.Stamping.{rockOf}
 
 -- "Map 8 by 8 unless said."
 abbrev pub wide : ℕ

@@ -11,8 +11,8 @@ use borrow.Author.Tests.{eqb-true, eq-eqb}
 use Rattle.field.specs.declared.Marker.{Marker}
 use Rattle.field.specs.Map.{On}
 use Rattle.field.specs.Labels.{Rock, RockOn, blank}
-use Rattle.field.specs.Sheet.{Draws, bit, sheet}
-use Rattle.field.specs.Marks.{bit-true, and-split, and-both, or-split, or-right, sheet-draws}
+use Rattle.field.specs.Workings.Sheet.{Draws, bit, sheet}
+use Rattle.field.specs.Workings.Marks.{bit-true, and-split, and-both, or-split, or-right, sheet-draws}
 
 -- The marker stands on (x, y).
 unfoldable pub stands : Marker → ℕ → ℕ → Bool

@@ -6,7 +6,7 @@ use lib.Dec.{ltb, leb, eqb}
 use Rattle.field.specs.Map.{gap, no-distance}
 use Rattle.field.specs.Distances.{Way, eastward, southward, westward, northward}
 use Rattle.field.specs.Hops.{HopAnswer, there, one, two}
-use Rattle.field.specs.Sheet.{lit, sheet}
+use Rattle.field.specs.Workings.Sheet.{lit, sheet}
 
 -- 1 where the crossing k hops that way from (x, y) is marked, and else 0.
 unfoldable pub litAlong : Way → List ℕ → ℕ → ℕ → ℕ → ℕ → ℕ → ℕ

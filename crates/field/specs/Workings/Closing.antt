@@ -12,8 +12,8 @@ use lib.ListN.{length, getD}
 use borrow.Author.Tests.{ltb-true, leb-true, eqb-true, eqb-false, lt-ltb, le-ltb, le-leb}
 use Rattle.field.specs.Map.{On, number, at, Near, Apart}
 use Rattle.field.specs.Labels.{Closed, rock, between, Stable, RockOn, smallest}
-use Rattle.field.specs.Sheet.{Marked, Draws, bit, lit, around, sheet, sheet-length, sheet-at, Crossing, crossing, number-lt}
-use Rattle.field.specs.Marks.{bit-le, bit-true, or-split, or-right, lit-marked, marked-lit, Two, around-two, two-around}
+use Rattle.field.specs.Workings.Sheet.{Marked, Draws, bit, lit, around, sheet, sheet-length, sheet-at, Crossing, crossing, number-lt}
+use Rattle.field.specs.Workings.Marks.{bit-le, bit-true, or-split, or-right, lit-marked, marked-lit, Two, around-two, two-around}
 
 -- What one sweep makes of (x, y): all crossings are judged together on the state before it, and one with two or more marked neighbours is marked.
 unfoldable pub next : List ℕ → ℕ → ℕ → ℕ → ℕ → ℕ

@@ -9,7 +9,7 @@ use native.Mathlib.Decide.{decLt, ℕ-discrete}
 use lib.Dec.{ltb}
 use borrow.Author.Tests.{ltb-true, lt-ltb, le-ltb}
 use Rattle.field.specs.Map.{On, at, Near, east, west, north, south, Apart}
-use Rattle.field.specs.Sheet.{Marked, Draws, bit, lit, westOf, southOf, around, sheet, sheet-at}
+use Rattle.field.specs.Workings.Sheet.{Marked, Draws, bit, lit, westOf, southOf, around, sheet, sheet-at}
 
 -- Tests.
 pub bit-le : (b : Bool) → bit b ≤ 1

@@ -5,8 +5,8 @@ use mathlib.Core.Logic.{_↔_}
 use Prim.Native.Nat.{ℕ, zero, suc, _+_, _<_}
 use native.Mathlib.Omega.{arith}
 use Rattle.field.specs.Labels.{sumTo, one, count, Count}
-use Rattle.field.specs.Sheet.{Draws, lit}
-use Rattle.field.specs.Marks.{drawn-dec, drawn-lit, undrawn-lit}
+use Rattle.field.specs.Workings.Sheet.{Draws, lit}
+use Rattle.field.specs.Workings.Marks.{drawn-dec, drawn-lit, undrawn-lit}
 
 -- The sum of f over the map.
 unfoldable pub tally : ℕ → ℕ → (ℕ → ℕ → ℕ) → ℕ

@@ -5,8 +5,8 @@ use Prim.Native.Nat.{ℕ, zero, suc, _+_, _-_}
 use lib.Dec.{ltb, eqb}
 use Rattle.field.specs.Map.{number, dist}
 use Rattle.field.specs.Chooser.{drawn, top}
-use Rattle.field.specs.Sheet.{bit, lit, around, sheet}
-use Rattle.field.specs.Looking.{hopTo, openOf}
+use Rattle.field.specs.Workings.Sheet.{bit, lit, around, sheet}
+use Rattle.field.specs.Workings.Looking.{hopTo, openOf}
 
 -- What one more hop makes of (x, y): t marks the crossings with a shortest drive to (dx, dy) of fewer than n hops.
 unfoldable pub reachNext : List ℕ → ℕ → ℕ → ℕ → ℕ → List ℕ → ℕ → ℕ → ℕ → ℕ

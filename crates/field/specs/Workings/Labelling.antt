@@ -10,9 +10,9 @@ use lib.ListN.{length}
 use borrow.Author.Tests.{lt-ltb, le-ltb}
 use Rattle.field.specs.Map.{On, at}
 use Rattle.field.specs.Labels.{Closed, rock, closed-on-map, Open, Shut, RockOn, Label, is-open, is-rock, is-shut, LabelSheet}
-use Rattle.field.specs.Sheet.{Marked, Draws, lit, sheet, sheet-length, sheet-at, sheet-same}
-use Rattle.field.specs.Marks.{drawn-dec, drawn-lit, undrawn-lit}
-use Rattle.field.specs.Closing.{closing, closing-draws}
+use Rattle.field.specs.Workings.Sheet.{Marked, Draws, lit, sheet, sheet-length, sheet-at, sheet-same}
+use Rattle.field.specs.Workings.Marks.{drawn-dec, drawn-lit, undrawn-lit}
+use Rattle.field.specs.Workings.Closing.{closing, closing-draws}
 
 -- The label from the two marks, rock and closed.
 abbrev pub labelOf : ℕ → ℕ → ℕ

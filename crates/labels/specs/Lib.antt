@@ -1,0 +1,3 @@
+-- What the labelling code promises, and what its sheet holds while it works.
+pub mod Promise
+pub mod Work
