@@ -1,3 +1,4 @@
--- What the labelling code promises, and what its sheet holds while it works.
+-- What the labelling code promises, and what its sheet and its stack hold while it works.
 pub mod Promise
 pub mod Work
+pub mod Steps

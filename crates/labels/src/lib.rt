@@ -4,7 +4,8 @@
 ghost use mathlib.Core.Path.{_≡_};
 ghost use Prim.Native.Nat.{ℕ, _+_, _*_, _<_, _≤_};
 ghost use lib.ListN.{length, getD};
-ghost use Rattle.labels.specs.Promise.{Stamped, Labels};
+ghost use Rattle.labels.specs.Work.{packed, Packs};
+ghost use Rattle.labels.specs.Steps.{Touching, Touched, Looking, Step, Looked};
 
 // What labelling hands back: the numbers of rocks' crossings, shut crossings and groups.
 pub struct Labelled {
@@ -23,7 +24,10 @@ const WEST: u8 = 5;
 const NORTH: u8 = 6;
 
 // A crossing as one number of the stack.
-fn pack(x: usize, y: usize) -> u16 {
+fn pack(x: usize, y: usize) -> u16
+    requires { ⌜ Packs x y ⌝ }
+    ensures { λ r. ⌜ r ≡ packed x y ⌝ }
+{
     (y * 256 + x) as u16
 }
 
@@ -37,7 +41,10 @@ fn touch(
     note: u8,
     stack: &mut [u16],
     k: usize,
-) -> usize {
+) -> usize
+    requires { ⌜ Touching w x y (now s) (now stack) k ⌝ }
+    ensures { λ r. ⌜ Touched w x y note (now (s .entry)) (now (s .exit)) (now (stack .entry)) (now (stack .exit)) k r ⌝ }
+{
     let i = y * w + x;
     let b = s[i];
     if b == 0 {
@@ -53,205 +60,4 @@ fn touch(
     s[i] = 2;
     stack[k] = pack(x, y);
     k + 1
-}
-
-// Touches the neighbour on each side, where the map has one.
-fn touch_east(s: &mut [u8], w: usize, x: usize, y: usize, stack: &mut [u16], k: usize) -> usize {
-    if x + 1 < w {
-        return touch(s, w, x + 1, y, WEST, stack, k);
-    }
-    k
-}
-
-fn touch_south(s: &mut [u8], w: usize, x: usize, y: usize, stack: &mut [u16], k: usize) -> usize {
-    if 0 < y {
-        return touch(s, w, x, y - 1, NORTH, stack, k);
-    }
-    k
-}
-
-fn touch_west(s: &mut [u8], w: usize, x: usize, y: usize, stack: &mut [u16], k: usize) -> usize {
-    if 0 < x {
-        return touch(s, w, x - 1, y, EAST, stack, k);
-    }
-    k
-}
-
-fn touch_north(
-    s: &mut [u8],
-    w: usize,
-    h: usize,
-    x: usize,
-    y: usize,
-    stack: &mut [u16],
-    k: usize,
-) -> usize {
-    if y + 1 < h {
-        return touch(s, w, x, y + 1, SOUTH, stack, k);
-    }
-    k
-}
-
-// Looks around the closed crossing (x, y).
-fn look_around(
-    s: &mut [u8],
-    w: usize,
-    h: usize,
-    x: usize,
-    y: usize,
-    stack: &mut [u16],
-    k: usize,
-) -> usize {
-    let e = touch_east(s, w, x, y, stack, k);
-    let d = touch_south(s, w, x, y, stack, e);
-    let f = touch_west(s, w, x, y, stack, d);
-    touch_north(s, w, h, x, y, stack, f)
-}
-
-// Takes crossings off the stack and looks around each, until the stack is empty.
-fn drain(s: &mut [u8], w: usize, h: usize, stack: &mut [u16], height: usize) {
-    let mut k = height;
-    while 0 < k {
-        let v = stack[k - 1];
-        k = look_around(
-            s,
-            w,
-            h,
-            (v % 256) as usize,
-            (v / 256) as usize,
-            stack,
-            k - 1,
-        );
-    }
-}
-
-// Puts the rocks of row y on the stack.
-fn gather_row(s: &[u8], w: usize, y: usize, stack: &mut [u16], height: usize) -> usize {
-    let mut k = height;
-    let mut x = 0;
-    while x < w {
-        if s[y * w + x] == 1 {
-            stack[k] = pack(x, y);
-            k += 1;
-        }
-        x += 1;
-    }
-    k
-}
-
-// Puts all rocks on the stack.
-fn gather(s: &[u8], w: usize, h: usize, stack: &mut [u16]) -> usize {
-    let mut k = 0;
-    let mut y = 0;
-    while y < h {
-        k = gather_row(s, w, y, stack, k);
-        y += 1;
-    }
-    k
-}
-
-// Shuts every crossing of the smallest set that is no rock, and leaves notes at others.
-fn close(s: &mut [u8], w: usize, h: usize) {
-    let mut stack = [0u16; 4096];
-    let k = gather(s, w, h, &mut stack);
-    drain(s, w, h, &mut stack, k);
-}
-
-// 1 where neither the west nor the south neighbour of (x, y) is closed, and else 0.
-fn corner(s: &[u8], w: usize, x: usize, y: usize) -> usize {
-    if 0 < x {
-        if s[y * w + x - 1] != 0 {
-            return 0;
-        }
-    }
-    if 0 < y {
-        if s[(y - 1) * w + x] != 0 {
-            return 0;
-        }
-    }
-    1
-}
-
-// Takes the note at (x, y) off, and tells what the crossing counts for.
-fn settle(s: &mut [u8], w: usize, x: usize, y: usize) -> Labelled {
-    let i = y * w + x;
-    let b = s[i];
-    if b == 0 {
-        return Labelled {
-            rocks: 0,
-            shut: 0,
-            groups: 0,
-        };
-    }
-    if 2 < b {
-        s[i] = 0;
-        return Labelled {
-            rocks: 0,
-            shut: 0,
-            groups: 0,
-        };
-    }
-    let lowest = corner(s, w, x, y);
-    if b == 1 {
-        return Labelled {
-            rocks: 1,
-            shut: 0,
-            groups: lowest,
-        };
-    }
-    Labelled {
-        rocks: 0,
-        shut: 1,
-        groups: lowest,
-    }
-}
-
-// Settles row y: what its crossings count for.
-fn settle_row(s: &mut [u8], w: usize, y: usize) -> Labelled {
-    let mut rocks = 0;
-    let mut shut = 0;
-    let mut groups = 0;
-    let mut x = 0;
-    while x < w {
-        let one = settle(s, w, x, y);
-        rocks += one.rocks;
-        shut += one.shut;
-        groups += one.groups;
-        x += 1;
-    }
-    Labelled {
-        rocks,
-        shut,
-        groups,
-    }
-}
-
-// Settles the whole sheet, and sums up.
-fn settle_all(s: &mut [u8], w: usize, h: usize) -> Labelled {
-    let mut rocks = 0;
-    let mut shut = 0;
-    let mut groups = 0;
-    let mut y = 0;
-    while y < h {
-        let row = settle_row(s, w, y);
-        rocks += row.rocks;
-        shut += row.shut;
-        groups += row.groups;
-        y += 1;
-    }
-    Labelled {
-        rocks,
-        shut,
-        groups,
-    }
-}
-
-// Labels a sheet on which the rocks are stamped as 1, all else 0: then it holds 0 where a crossing is open, 1 at a rock, 2 where one is shut.
-// Hands back the numbers of rocks' crossings, shut crossings and groups.
-pub fn label(s: &mut [u8], w: usize, h: usize) -> Labelled
-    requires { ⌜ Stamped w h (now s) ⌝ }
-    ensures { λ r. ⌜ Labels w h (now (s .entry)) (now (s .exit)) r ⌝ }
-{
-    close(s, w, h);
-    settle_all(s, w, h)
 }

@@ -1,0 +1,7 @@
+-- What the labelling's steps come to. Bytes, Notes and Stacks have the laws of what is written; Working is what stays true while the stack is
+-- drained, and Looking carries it from step to step.
+pub mod Bytes
+pub mod Notes
+pub mod Stacks
+pub mod Working
+pub mod Touching
