@@ -5,3 +5,5 @@ pub mod Notes
 pub mod Stacks
 pub mod Working
 pub mod Touching
+pub mod Rooms
+pub mod Looking

@@ -61,3 +61,95 @@ fn touch(
     stack[k] = pack(x, y);
     k + 1
 }
+
+// Touches the neighbour on each side, where the map has one.
+fn touch_east(
+    s: &mut [u8],
+    w: usize,
+    h: usize,
+    x: usize,
+    y: usize,
+    stack: &mut [u16],
+    k: usize,
+) -> usize
+    requires { ⌜ Looking w h x y (now s) (now stack) k ⌝ }
+    ensures { λ r. ⌜ Step w h 3 5 x y (now (s .entry)) (now (s .exit)) (now (stack .entry)) (now (stack .exit)) k r ⌝ }
+{
+    if x + 1 < w {
+        return touch(s, w, x + 1, y, WEST, stack, k);
+    }
+    k
+}
+
+fn touch_south(
+    s: &mut [u8],
+    w: usize,
+    h: usize,
+    x: usize,
+    y: usize,
+    stack: &mut [u16],
+    k: usize,
+) -> usize
+    requires { ⌜ Looking w h x y (now s) (now stack) k ⌝ }
+    ensures { λ r. ⌜ Step w h 4 6 x y (now (s .entry)) (now (s .exit)) (now (stack .entry)) (now (stack .exit)) k r ⌝ }
+{
+    if 0 < y {
+        return touch(s, w, x, y - 1, NORTH, stack, k);
+    }
+    k
+}
+
+fn touch_west(
+    s: &mut [u8],
+    w: usize,
+    h: usize,
+    x: usize,
+    y: usize,
+    stack: &mut [u16],
+    k: usize,
+) -> usize
+    requires { ⌜ Looking w h x y (now s) (now stack) k ⌝ }
+    ensures { λ r. ⌜ Step w h 5 3 x y (now (s .entry)) (now (s .exit)) (now (stack .entry)) (now (stack .exit)) k r ⌝ }
+{
+    if 0 < x {
+        return touch(s, w, x - 1, y, EAST, stack, k);
+    }
+    k
+}
+
+fn touch_north(
+    s: &mut [u8],
+    w: usize,
+    h: usize,
+    x: usize,
+    y: usize,
+    stack: &mut [u16],
+    k: usize,
+) -> usize
+    requires { ⌜ Looking w h x y (now s) (now stack) k ⌝ }
+    ensures { λ r. ⌜ Step w h 6 4 x y (now (s .entry)) (now (s .exit)) (now (stack .entry)) (now (stack .exit)) k r ⌝ }
+{
+    if y + 1 < h {
+        return touch(s, w, x, y + 1, SOUTH, stack, k);
+    }
+    k
+}
+
+// Looks around the closed crossing (x, y).
+fn look_around(
+    s: &mut [u8],
+    w: usize,
+    h: usize,
+    x: usize,
+    y: usize,
+    stack: &mut [u16],
+    k: usize,
+) -> usize
+    requires { ⌜ Looking w h x y (now s) (now stack) k ⌝ }
+    ensures { λ r. ⌜ Looked w h x y (now (s .entry)) (now (s .exit)) (now (stack .entry)) (now (stack .exit)) k r ⌝ }
+{
+    let e = touch_east(s, w, h, x, y, stack, k);
+    let d = touch_south(s, w, h, x, y, stack, e);
+    let f = touch_west(s, w, h, x, y, stack, d);
+    touch_north(s, w, h, x, y, stack, f)
+}

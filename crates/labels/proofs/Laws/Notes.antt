@@ -2,7 +2,7 @@
 use mathlib.Core.Path.{_≡_, refl, sym, ap, _∙_}
 use Prim.Native.Nat.{ℕ, _+_, _*_, _-_, _<_}
 use native.Mathlib.Omega.{arith}
-use Rattle.field.specs.Map.{Near, east, south, west, north, Apart}
+use Rattle.field.specs.Map.{On, Near, east, south, west, north, Apart}
 use Rattle.labels.specs.Work.{Noted, note-east, note-south, note-west, note-north}
 
 module _ {n x y a b : ℕ} where
@@ -58,3 +58,11 @@ near-noted (east p q) e s w n = w (note-west refl (omega arith) (omega arith))
 near-noted (west p q) e s w n = e (note-east refl (omega arith) (omega arith))
 near-noted (north p q) e s w n = s (note-south refl (omega arith) (omega arith))
 near-noted (south p q) e s w n = n (note-north refl (omega arith) (omega arith))
+
+-- Where the map has the neighbour on a side, it goes on there.
+pub noted-on : {w h d x y a b : ℕ} → On w h a b → Noted d x y a b
+    → (d ≡ 3 → x + 1 < w) × (d ≡ 4 → 0 < y) × (d ≡ 5 → 0 < x) × (d ≡ 6 → y + 1 < h)
+noted-on o (note-east e p q) = omega arith
+noted-on o (note-south e p q) = omega arith
+noted-on o (note-west e p q) = omega arith
+noted-on o (note-north e p q) = omega arith
