@@ -7,3 +7,4 @@ pub mod Working
 pub mod Touching
 pub mod Rooms
 pub mod Looking
+pub mod Draining

@@ -2,3 +2,4 @@
 pub mod Promise
 pub mod Work
 pub mod Steps
+pub mod Gathering

@@ -5,6 +5,8 @@ ghost use mathlib.Core.Path.{_≡_};
 ghost use Prim.Native.Nat.{ℕ, _+_, _*_, _<_, _≤_};
 ghost use lib.ListN.{length, getD};
 ghost use Rattle.labels.specs.Work.{packed, Packs};
+ghost use Rattle.labels.specs.Promise.{Stones};
+ghost use Rattle.labels.specs.Gathering.{GatheringRow, Gathering, Gathered, Draining, Worked};
 ghost use Rattle.labels.specs.Steps.{Touching, Touched, Looking, Step, Looked};
 
 // What labelling hands back: the numbers of rocks' crossings, shut crossings and groups.
@@ -152,4 +154,24 @@ fn look_around(
     let d = touch_south(s, w, h, x, y, stack, e);
     let f = touch_west(s, w, h, x, y, stack, d);
     touch_north(s, w, h, x, y, stack, f)
+}
+
+// Takes crossings off the stack and looks around each, until the stack is empty.
+fn drain(s: &mut [u8], w: usize, h: usize, stack: &mut [u16], height: usize)
+    requires { ⌜ Draining w h (now s) (now stack) height ⌝ }
+    ensures { λ r. ⌜ Worked (Stones w h (now (s .entry))) w h (now (s .exit)) ⌝ }
+{
+    let mut k = height;
+    while 0 < k {
+        let v = stack[k - 1];
+        k = look_around(
+            s,
+            w,
+            h,
+            (v % 256) as usize,
+            (v / 256) as usize,
+            stack,
+            k - 1,
+        );
+    }
 }
