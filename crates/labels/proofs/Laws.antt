@@ -7,4 +7,5 @@ pub mod Working
 pub mod Touching
 pub mod Rooms
 pub mod Looking
+pub mod Gathering
 pub mod Draining

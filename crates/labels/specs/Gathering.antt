@@ -22,7 +22,16 @@ pub record Gathered (w : ℕ) (s stack : List ℕ) (k i : ℕ) : Type 0 where
   pub rocks : (j : ℕ) → j < k → Gathers w s i (getD stack j 0)
   pub every : (x y : ℕ) → x < w → number w x y < i → at s w x y ≡ 1 → Waits stack k x y
 
--- Row y can be gathered: the rows before it are, and there is room for each crossing of the sheet.
+-- (x, y) can be gathered: the crossings before it are, and there is room for each crossing of the sheet.
+pub record GatheringOne (w x y : ℕ) (s stack : List ℕ) (k : ℕ) : Type 0 where
+  pub ones : (i : ℕ) → getD s i 0 ≤ 1
+  pub packs : Packs x y
+  pub in-x : x < w
+  pub in-sheet : number w x y < length s
+  pub deep : length s ≤ length stack
+  pub gathered : Gathered w s stack k (number w x y)
+
+-- Row y can be gathered: the rows before it are.
 pub record GatheringRow (w y : ℕ) (s stack : List ℕ) (k : ℕ) : Type 0 where
   pub ones : (i : ℕ) → getD s i 0 ≤ 1
   pub packs : (x : ℕ) → x < w → Packs x y

@@ -6,7 +6,7 @@ ghost use Prim.Native.Nat.{ℕ, _+_, _*_, _<_, _≤_};
 ghost use lib.ListN.{length, getD};
 ghost use Rattle.labels.specs.Work.{packed, Packs};
 ghost use Rattle.labels.specs.Promise.{Stones};
-ghost use Rattle.labels.specs.Gathering.{GatheringRow, Gathering, Gathered, Draining, Worked};
+ghost use Rattle.labels.specs.Gathering.{GatheringOne, GatheringRow, Gathering, Gathered, Draining, Worked};
 ghost use Rattle.labels.specs.Steps.{Touching, Touched, Looking, Step, Looked};
 
 // What labelling hands back: the numbers of rocks' crossings, shut crossings and groups.
@@ -154,6 +154,46 @@ fn look_around(
     let d = touch_south(s, w, h, x, y, stack, e);
     let f = touch_west(s, w, h, x, y, stack, d);
     touch_north(s, w, h, x, y, stack, f)
+}
+
+// Puts (x, y) on the stack if it is a rock.
+fn gather_one(s: &[u8], w: usize, x: usize, y: usize, stack: &mut [u16], k: usize) -> usize
+    requires { ⌜ GatheringOne w x y (now s) (now stack) k ⌝ }
+    ensures { λ r. ⌜ Gathered w (now (s .entry)) (now (stack .exit)) r (y * w + x + 1) ⌝ }
+{
+    if s[y * w + x] == 1 {
+        stack[k] = pack(x, y);
+        return k + 1;
+    }
+    k
+}
+
+// Puts the rocks of row y on the stack.
+fn gather_row(s: &[u8], w: usize, y: usize, stack: &mut [u16], height: usize) -> usize
+    requires { ⌜ GatheringRow w y (now s) (now stack) height ⌝ }
+    ensures { λ r. ⌜ Gathered w (now (s .entry)) (now (stack .exit)) r (y * w + w) ⌝ }
+{
+    let mut k = height;
+    let mut x = 0;
+    while x < w {
+        k = gather_one(s, w, x, y, stack, k);
+        x += 1;
+    }
+    k
+}
+
+// Puts all rocks on the stack.
+fn gather(s: &[u8], w: usize, h: usize, stack: &mut [u16]) -> usize
+    requires { ⌜ Gathering w h (now s) (now stack) ⌝ }
+    ensures { λ r. ⌜ Gathered w (now (s .entry)) (now (stack .exit)) r (h * w) ⌝ }
+{
+    let mut k = 0;
+    let mut y = 0;
+    while y < h {
+        k = gather_row(s, w, y, stack, k);
+        y += 1;
+    }
+    k
 }
 
 // Takes crossings off the stack and looks around each, until the stack is empty.

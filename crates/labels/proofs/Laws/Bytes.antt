@@ -69,6 +69,10 @@ module _ (s : List ℕ) (i v : ℕ) (fits : i < length s) where
           )
       go (no e) g = omega (arith, g (omega arith), ap freeBit (getD-set-other s i n v 0 (omega arith)))
 
+-- A row of the map ends within it.
+pub row-ends : (w h y : ℕ) → y < h → y * w + w ≤ h * w
+row-ends w h y l = omega (arith, mul-le-mul-right {m = suc y} {n = h} w l)
+
 -- A crossing has its number alone.
 pub number-one : (w x y a b : ℕ) → x < w → a < w → number w x y ≡ number w a b → (x ≡ a) × (y ≡ b)
 number-one w x y a b p q e = go (decLt y b) (decLt b y)
