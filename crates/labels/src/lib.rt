@@ -5,7 +5,7 @@ ghost use mathlib.Core.Path.{_≡_};
 ghost use Prim.Native.Nat.{ℕ, _+_, _*_, _<_, _≤_};
 ghost use lib.ListN.{length, getD};
 ghost use Rattle.labels.specs.Work.{packed, Packs};
-ghost use Rattle.labels.specs.Promise.{Stones};
+ghost use Rattle.labels.specs.Promise.{Stones, Stamped};
 ghost use Rattle.labels.specs.Gathering.{GatheringOne, GatheringRow, Gathering, Gathered, Draining, Worked};
 ghost use Rattle.labels.specs.Steps.{Touching, Touched, Looking, Step, Looked};
 
@@ -214,4 +214,14 @@ fn drain(s: &mut [u8], w: usize, h: usize, stack: &mut [u16], height: usize)
             k - 1,
         );
     }
+}
+
+// Shuts every crossing of the smallest set that is no rock, and leaves notes at others.
+fn close(s: &mut [u8], w: usize, h: usize)
+    requires { ⌜ Stamped w h (now s) ⌝ }
+    ensures { λ r. ⌜ Worked (Stones w h (now (s .entry))) w h (now (s .exit)) ⌝ }
+{
+    let mut stack = [0u16; 4096];
+    let k = gather(s, w, h, &mut stack);
+    drain(s, w, h, &mut stack, k);
 }

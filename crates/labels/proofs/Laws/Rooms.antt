@@ -5,6 +5,7 @@ use mathlib.Core.List.{List}
 use mathlib.Core.Logic.{_⊎_, inl, inr}
 use Prim.Native.Nat.{ℕ, _+_, _*_, _<_, _≤_}
 use native.Mathlib.Omega.{arith}
+use native.Mathlib.Nat.{mul-le-mul-right}
 use lib.ListN.{length, getD, set, length-set}
 use Rattle.field.specs.Map.{side, Sides, On, number, at}
 use Rattle.field.specs.Workings.Sheet.{number-lt}
@@ -12,6 +13,11 @@ use Rattle.labels.specs.Work.{Shown, Free, freeBit, freeTo, Noted, packe
 use Rattle.labels.specs.Steps.{Touching, Touched, noted, shut, kept, Looking, Step, edge, beside, Looked}
 use Rattle.labels.proofs.Laws.Bytes.{free-bit, shown-bit, free-some, free-set}
 use Rattle.labels.proofs.Laws.Notes.{noted-high}
+
+-- The stack has a slot for each crossing of the largest map.
+pub sides-stack : {w h : ℕ} → Sides w h → h * w ≤ 4096
+unfolding side
+sides-stack {w} {h} s = omega (arith, s .most-w, mul-le-mul-right {m = h} {n = side} w (s .most-h))
 
 -- A crossing of the map goes into one number of the stack.
 pub on-packs : {w h x y : ℕ} → Sides w h → On w h x y → Packs x y
