@@ -9,3 +9,5 @@ pub mod Rooms
 pub mod Looking
 pub mod Gathering
 pub mod Draining
+pub mod Bits
+pub mod Settling

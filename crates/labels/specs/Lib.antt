@@ -3,3 +3,4 @@ pub mod Promise
 pub mod Work
 pub mod Steps
 pub mod Gathering
+pub mod Settling

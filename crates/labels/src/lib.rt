@@ -2,11 +2,12 @@
 // taken off: so the work grows with the map. A crossing that is open so far keeps a note of the one closed neighbour that was looked around; a
 // second one, told from it by its direction, shuts the crossing.
 ghost use mathlib.Core.Path.{_≡_};
-ghost use Prim.Native.Nat.{ℕ, _+_, _*_, _<_, _≤_};
+ghost use Prim.Native.Nat.{ℕ, _+_, _*_, _-_, _<_, _≤_};
 ghost use lib.ListN.{length, getD};
 ghost use Rattle.labels.specs.Work.{packed, Packs};
 ghost use Rattle.labels.specs.Promise.{Stones, Stamped};
 ghost use Rattle.labels.specs.Gathering.{GatheringOne, GatheringRow, Gathering, Gathered, Draining, Worked};
+ghost use Rattle.labels.specs.Settling.{westBit, southBit, worth, sumOf, Adding, Settling, Settled, SettlingRow, SettledRow, SettledAll};
 ghost use Rattle.labels.specs.Steps.{Touching, Touched, Looking, Step, Looked};
 
 // What labelling hands back: the numbers of rocks' crossings, shut crossings and groups.
@@ -224,4 +225,57 @@ fn close(s: &mut [u8], w: usize, h: usize)
     let mut stack = [0u16; 4096];
     let k = gather(s, w, h, &mut stack);
     drain(s, w, h, &mut stack, k);
+}
+
+// The sum of two counts.
+fn plus(a: Labelled, b: Labelled) -> Labelled
+    requires { ⌜ Adding a b ⌝ }
+    ensures { λ r. ⌜ r ≡ sumOf a b ⌝ }
+{
+    Labelled {
+        rocks: a.rocks + b.rocks,
+        shut: a.shut + b.shut,
+        groups: a.groups + b.groups,
+    }
+}
+
+// 1 where the west neighbour of (x, y) is closed, and else 0; and the same of its south neighbour. Both are settled before (x, y) is.
+fn closed_west(s: &[u8], w: usize, x: usize, y: usize) -> usize
+    requires { ⌜ Settling w x y (now s) ⌝ }
+    ensures { λ r. ⌜ r ≡ westBit (now (s .entry)) w x y ⌝ }
+{
+    if x == 0 {
+        return 0;
+    }
+    if s[y * w + x - 1] == 0 {
+        return 0;
+    }
+    1
+}
+
+fn closed_south(s: &[u8], w: usize, x: usize, y: usize) -> usize
+    requires { ⌜ Settling w x y (now s) ⌝ }
+    ensures { λ r. ⌜ r ≡ southBit (now (s .entry)) w x y ⌝ }
+{
+    if y == 0 {
+        return 0;
+    }
+    if s[(y - 1) * w + x] == 0 {
+        return 0;
+    }
+    1
+}
+
+// 1 where neither the west nor the south neighbour of (x, y) is closed, and else 0.
+fn corner(s: &[u8], w: usize, x: usize, y: usize) -> usize
+    requires { ⌜ Settling w x y (now s) ⌝ }
+    ensures { λ r. ⌜ r ≡ 1 - (westBit (now (s .entry)) w x y + southBit (now (s .entry)) w x y) ⌝ }
+{
+    if closed_west(s, w, x, y) != 0 {
+        return 0;
+    }
+    if closed_south(s, w, x, y) != 0 {
+        return 0;
+    }
+    1
 }
