@@ -11,3 +11,4 @@ pub mod Gathering
 pub mod Draining
 pub mod Bits
 pub mod Settling
+pub mod Totals

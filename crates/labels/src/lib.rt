@@ -279,3 +279,59 @@ fn corner(s: &[u8], w: usize, x: usize, y: usize) -> usize
     }
     1
 }
+
+// Takes the note at (x, y) off, and tells what the crossing counts for.
+fn settle(s: &mut [u8], w: usize, x: usize, y: usize) -> Labelled
+    requires { ⌜ Settling w x y (now s) ⌝ }
+    ensures { λ r. ⌜ Settled w x y (now (s .entry)) (now (s .exit)) r ⌝ }
+{
+    let i = y * w + x;
+    let b = s[i];
+    if b == 0 {
+        return Labelled {
+            rocks: 0,
+            shut: 0,
+            groups: 0,
+        };
+    }
+    if 2 < b {
+        s[i] = 0;
+        return Labelled {
+            rocks: 0,
+            shut: 0,
+            groups: 0,
+        };
+    }
+    let lowest = corner(s, w, x, y);
+    if b == 1 {
+        return Labelled {
+            rocks: 1,
+            shut: 0,
+            groups: lowest,
+        };
+    }
+    Labelled {
+        rocks: 0,
+        shut: 1,
+        groups: lowest,
+    }
+}
+
+// Settles row y: what its crossings count for.
+fn settle_row(s: &mut [u8], w: usize, y: usize) -> Labelled
+    requires { ⌜ SettlingRow w y (now s) ⌝ }
+    ensures { λ r. ⌜ SettledRow w y (now (s .entry)) (now (s .exit)) r ⌝ }
+{
+    let mut sum = Labelled {
+        rocks: 0,
+        shut: 0,
+        groups: 0,
+    };
+    let mut x = 0;
+    while x < w {
+        let one = settle(s, w, x, y);
+        sum = plus(sum, one);
+        x += 1;
+    }
+    sum
+}

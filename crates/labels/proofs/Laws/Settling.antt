@@ -8,12 +8,13 @@ use native.Mathlib.Omega.{arith}
 use native.Mathlib.Numerals.{add-one}
 use native.Mathlib.Decide.{decLt, ℕ-discrete}
 use lib.ListN.{length, getD, set, length-set}
-use lib.Seq.{getD-set-same, getD-set-other}
+use lib.Seq.{getD-set-same, getD-set-other, set-getD}
 use Rattle.field.specs.Map.{number, at}
 use Rattle.labels.specs.declared.Labelled.{Labelled}
 use Rattle.labels.specs.Work.{Free}
 use Rattle.labels.specs.Gathering.{settled}
 use Rattle.labels.specs.Settling.{rockBit, shutBit, closedBit, westBit, southBit, worth, sumOf, total, Passed, Turned}
+use Rattle.labels.proofs.Laws.Bytes.{shown-free}
 use Rattle.labels.proofs.Laws.Bits.{rock-one, rock-none, shut-one, shut-none, closed-one, closed-none, west-none, west-at, south-none, south-at}
 use Rattle.labels.proofs.Laws.Draining.{settled-low, settled-high}
 
@@ -108,3 +109,33 @@ module _ {s t : List ℕ} {i j : ℕ} (T : Turned s t i j) where
   turned-worth w x y =
       let l = turned-left (number w x y) in
       cc (left-rock _ _ l, left-shut _ _ l, left-closed _ _ l, turned-west w x y, turned-south w x y)
+
+-- The sheet stays where there is no note.
+pub set-settled : (s : List ℕ) (i : ℕ) → getD s i 0 ≤ 2 → s ≡ set s i (settled (getD s i 0))
+set-settled s i l = sym (ap (set s i) (settled-low (getD s i 0) l) ∙ set-getD s i 0)
+
+pub set-blank : (s : List ℕ) (i : ℕ) → 2 < getD s i 0 → set s i 0 ≡ set s i (settled (getD s i 0))
+set-blank s i l = ap (set s i) (sym (settled-high (getD s i 0) l))
+
+-- Counts are equal one by one.
+labelled-same : {a b : Labelled} → a .rocks ≡ b .rocks → a .shut ≡ b .shut → a .groups ≡ b .groups → a ≡ b
+labelled-same p q r = λ i. record { rocks = p i; shut = q i; groups = r i }
+
+-- What an open crossing, a rock and a shut crossing count for.
+module _ (s : List ℕ) (w x y : ℕ) where
+  pub worth-open : Free (at s w x y) → record { rocks = 0; shut = 0; groups = 0 } ≡ worth s w x y
+  unfolding worth
+  worth-open f =
+      labelled-same (sym (rock-none (at s w x y) (λ e. shown-free (at s w x y) (omega arith) f)))
+      (sym (shut-none (at s w x y) (λ e. shown-free (at s w x y) (omega arith) f))) (omega (arith, closed-none (at s w x y) f))
+
+  module _ (n : ℕ) (e : n ≡ 1 - (westBit s w x y + southBit s w x y)) where
+    pub worth-rock : at s w x y ≡ 1 → record { rocks = 1; shut = 0; groups = n } ≡ worth s w x y
+    unfolding worth
+    worth-rock f =
+        labelled-same (sym (rock-one (at s w x y) f)) (sym (shut-none (at s w x y) (omega arith))) (omega (arith, closed-one (at s w x y) (omega arith)))
+
+    pub worth-shut : at s w x y ≡ 2 → record { rocks = 0; shut = 1; groups = n } ≡ worth s w x y
+    unfolding worth
+    worth-shut f =
+        labelled-same (sym (rock-none (at s w x y) (omega arith))) (sym (shut-one (at s w x y) f)) (omega (arith, closed-one (at s w x y) (omega arith)))
