@@ -12,3 +12,4 @@ pub mod Draining
 pub mod Bits
 pub mod Settling
 pub mod Totals
+pub mod Rows

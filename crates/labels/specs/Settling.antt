@@ -84,6 +84,9 @@ pub record SettledRow (w y : ℕ) (s t : List ℕ) (r : Labelled) : Type 0 where
   pub counts : r ≡ total w (λ x. worth s w x y)
 
 -- All rows.
+pub record SettlingAll (w h : ℕ) (s : List ℕ) : Type 0 where
+  pub size : length s ≡ h * w
+
 pub record SettledAll (w h : ℕ) (s t : List ℕ) (r : Labelled) : Type 0 where
   pub turned : Turned s t 0 (h * w)
   pub counts : r ≡ total h (λ y. total w (λ x. worth s w x y))

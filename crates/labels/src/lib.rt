@@ -7,7 +7,7 @@ ghost use lib.ListN.{length, getD};
 ghost use Rattle.labels.specs.Work.{packed, Packs};
 ghost use Rattle.labels.specs.Promise.{Stones, Stamped};
 ghost use Rattle.labels.specs.Gathering.{GatheringOne, GatheringRow, Gathering, Gathered, Draining, Worked};
-ghost use Rattle.labels.specs.Settling.{westBit, southBit, worth, sumOf, Adding, Settling, Settled, SettlingRow, SettledRow, SettledAll};
+ghost use Rattle.labels.specs.Settling.{westBit, southBit, worth, sumOf, Adding, Settling, Settled, SettlingRow, SettledRow, SettlingAll, SettledAll};
 ghost use Rattle.labels.specs.Steps.{Touching, Touched, Looking, Step, Looked};
 
 // What labelling hands back: the numbers of rocks' crossings, shut crossings and groups.
@@ -332,6 +332,25 @@ fn settle_row(s: &mut [u8], w: usize, y: usize) -> Labelled
         let one = settle(s, w, x, y);
         sum = plus(sum, one);
         x += 1;
+    }
+    sum
+}
+
+// Settles the whole sheet, and sums up.
+fn settle_all(s: &mut [u8], w: usize, h: usize) -> Labelled
+    requires { ⌜ SettlingAll w h (now s) ⌝ }
+    ensures { λ r. ⌜ SettledAll w h (now (s .entry)) (now (s .exit)) r ⌝ }
+{
+    let mut sum = Labelled {
+        rocks: 0,
+        shut: 0,
+        groups: 0,
+    };
+    let mut y = 0;
+    while y < h {
+        let row = settle_row(s, w, y);
+        sum = plus(sum, row);
+        y += 1;
     }
     sum
 }

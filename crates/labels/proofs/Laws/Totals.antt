@@ -31,6 +31,9 @@ pub record Most (m : ℕ) (a : Labelled) : Type 0 where
   pub shut : a .shut ≤ m
   pub groups : a .groups ≤ m
 
+pub most-at : {m n : ℕ} {a : Labelled} → m ≡ n → Most m a → Most n a
+most-at e p = rw e at p
+
 pub total-most : (n m : ℕ) (f : ℕ → Labelled) → ((k : ℕ) → Most m (f k)) → Most (n * m) (total n f)
 unfolding total sumOf
 total-most zero m f p = record { rocks = omega arith; shut = omega arith; groups = omega arith }
