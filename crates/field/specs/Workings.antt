@@ -1,9 +1,23 @@
 -- Workings: functions on sheets that compute what document 01 defines, each with the theorem, both ways, that it agrees with the meaning.
+pub mod Tests
 pub mod Sheet
 pub mod Marks
 pub mod Closing
 pub mod Stamping
 pub mod Labelling
 pub mod Counting
+pub mod Corners
+pub mod RowTests
 pub mod Looking
+pub mod ClearLaws
+pub mod DistanceLaws
+pub mod AssuredLaws
+pub mod HopLaws
+pub mod AnswerLaws
+pub mod GridLaws
+pub mod DriveLaws
+pub mod RegionLaws
 pub mod Reaching
+pub mod ReachLaws
+pub mod ChooserLaws
+pub mod ChoosingLaws

@@ -12,8 +12,9 @@ use lib.ListN.{length, getD}
 use borrow.Author.Tests.{ltb-true, leb-true, eqb-true, eqb-false, lt-ltb, le-ltb, le-leb}
 use Rattle.field.specs.Map.{On, number, at, Near, Apart}
 use Rattle.field.specs.Labels.{Closed, rock, between, Stable, RockOn, smallest}
+use Rattle.field.specs.Workings.Tests.{or-case}
 use Rattle.field.specs.Workings.Sheet.{Marked, Draws, bit, lit, around, sheet, sheet-length, sheet-at, Crossing, crossing, number-lt}
-use Rattle.field.specs.Workings.Marks.{bit-le, bit-true, or-split, or-right, lit-marked, marked-lit, Two, around-two, two-around}
+use Rattle.field.specs.Workings.Marks.{bit-le, bit-true, or-right, lit-marked, marked-lit, Two, around-two, two-around}
 
 -- What one sweep makes of (x, y): all crossings are judged together on the state before it, and one with two or more marked neighbours is marked.
 unfoldable pub next : List ℕ → ℕ → ℕ → ℕ → ℕ → ℕ
@@ -43,11 +44,8 @@ module _ (s : List ℕ) (w h : ℕ) where
   next-sound : (x y : ℕ) → 0 < next s w h x y → Marked s w h x y ⊎ Two s w h x y
   unfolding next
   next-sound x y l =
-      go (or-split (ltb 0 (lit s w h x y)) (leb 2 (around s w h x y)) (bit-true (ltb 0 (lit s w h x y) || leb 2 (around s w h x y)) l))
-    where
-      go : (ltb 0 (lit s w h x y) ≡ true) ⊎ (leb 2 (around s w h x y) ≡ true) → Marked s w h x y ⊎ Two s w h x y
-      go (inl e) = inl (lit-marked s w h x y (ltb-true _ _ e))
-      go (inr e) = inr (around-two s w h x y (leb-true _ _ e))
+      or-case (ltb 0 (lit s w h x y)) _ (λ e. inl (lit-marked s w h x y (ltb-true _ _ e)))
+      (λ e. let k = leb-true _ (around s w h x y) e in inr (around-two s w h x y (omega arith))) (bit-true _ l)
 
   next-keeps : (x y : ℕ) → Marked s w h x y → next s w h x y ≡ 1
   unfolding next
@@ -55,7 +53,7 @@ module _ (s : List ℕ) (w h : ℕ) where
 
   next-two : (x y : ℕ) → 2 ≤ around s w h x y → next s w h x y ≡ 1
   unfolding next
-  next-two x y l = simp (or-right (ltb 0 (lit s w h x y)) (leb 2 (around s w h x y)) (le-leb _ _ l))
+  next-two x y l = ap bit (or-right (ltb 0 (lit s w h x y)) _ (le-leb _ (around s w h x y) (omega arith)))
 
   sweep-at : (x y : ℕ) → On w h x y → at (sweep w h s) w x y ≡ next s w h x y
   unfolding sweep
