@@ -13,3 +13,4 @@ pub mod Bits
 pub mod Settling
 pub mod Totals
 pub mod Rows
+pub mod Labels

@@ -5,7 +5,7 @@ ghost use mathlib.Core.Path.{_≡_};
 ghost use Prim.Native.Nat.{ℕ, _+_, _*_, _-_, _<_, _≤_};
 ghost use lib.ListN.{length, getD};
 ghost use Rattle.labels.specs.Work.{packed, Packs};
-ghost use Rattle.labels.specs.Promise.{Stones, Stamped};
+ghost use Rattle.labels.specs.Promise.{Stones, Stamped, Labels};
 ghost use Rattle.labels.specs.Gathering.{GatheringOne, GatheringRow, Gathering, Gathered, Draining, Worked};
 ghost use Rattle.labels.specs.Settling.{westBit, southBit, worth, sumOf, Adding, Settling, Settled, SettlingRow, SettledRow, SettlingAll, SettledAll};
 ghost use Rattle.labels.specs.Steps.{Touching, Touched, Looking, Step, Looked};
@@ -353,4 +353,14 @@ fn settle_all(s: &mut [u8], w: usize, h: usize) -> Labelled
         y += 1;
     }
     sum
+}
+
+// Labels a sheet on which the rocks are stamped as 1, all else 0: then it holds 0 where a crossing is open, 1 at a rock, 2 where one is shut.
+// Hands back the numbers of rocks' crossings, shut crossings and groups.
+pub fn label(s: &mut [u8], w: usize, h: usize) -> Labelled
+    requires { ⌜ Stamped w h (now s) ⌝ }
+    ensures { λ r. ⌜ Labels w h (now (s .entry)) (now (s .exit)) r ⌝ }
+{
+    close(s, w, h);
+    settle_all(s, w, h)
 }

@@ -11,6 +11,7 @@ use lib.ListN.{length, getD, set}
 use lib.Seq.{getD-set-same, getD-set-other}
 use Rattle.field.specs.Map.{On, number, at, Apart}
 use Rattle.field.specs.Workings.Sheet.{number-lt}
+use Rattle.field.specs.Workings.GridLaws.{number-one}
 use Rattle.labels.specs.Work.{Shown, Free, Seen, freeBit, freeTo}
 
 -- Every byte is of one kind, and no byte of both.
@@ -73,15 +74,6 @@ module _ (s : List ℕ) (i v : ℕ) (fits : i < length s) where
 pub row-ends : (w h y : ℕ) → y < h → y * w + w ≤ h * w
 row-ends w h y l = omega (arith, mul-le-mul-right {m = suc y} {n = h} w l)
 
--- A crossing has its number alone.
-pub number-one : (w x y a b : ℕ) → x < w → a < w → number w x y ≡ number w a b → (x ≡ a) × (y ≡ b)
-number-one w x y a b p q e = go (decLt y b) (decLt b y)
-  where
-    go : Dec (y < b) → Dec (b < y) → (x ≡ a) × (y ≡ b)
-    go (yes l) m = absurd (omega (arith, mul-le-mul-right {m = suc y} {n = b} w l))
-    go (no l) (yes m) = absurd (omega (arith, mul-le-mul-right {m = suc b} {n = y} w m))
-    go (no l) (no m) = let f : y ≡ b = omega arith in (omega (arith, ap (λ (j : ℕ). j * w) f), f)
-
 -- A crossing has one byte, whatever its coordinates are called.
 pub at-same : (w : ℕ) (s : List ℕ) {x y a b : ℕ} → x ≡ a → y ≡ b → at s w x y ≡ at s w a b
 at-same w s {x} {y} {a} {b} p q = ap (λ (i : ℕ). at s w i y) p ∙ ap (at s w a) q
@@ -96,6 +88,6 @@ written {w} {h} {x} {y} {a} {b} s v e o p = go (ℕ-discrete (number w x y) (num
   where
     go : Dec (number w x y ≡ number w a b) → Written w x y a b s v
     go (yes f) =
-        let g = number-one w x y a b (o .in-x) (p .in-x) f in
+        let g = number-one p o f in
         here (g .0) (g .1) (rw f (getD-set-same s (number w a b) v 0 (omega (arith, number-lt w h a b p))))
     go (no f) = elsewhere (λ g. f (cc (g .0, g .1))) (getD-set-other s (number w a b) (number w x y) v 0 f)
