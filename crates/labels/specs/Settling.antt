@@ -30,21 +30,21 @@ unfoldable pub southBit : List ℕ → ℕ → ℕ → ℕ → ℕ
 southBit s w x zero = 0
 southBit s w x (suc y) = closedBit (at s w x y)
 
+-- Three counts as one value.
+abbrev pub counted : ℕ → ℕ → ℕ → Labelled
+counted rocks shut groups = record { rocks = rocks; shut = shut; groups = groups }
+
 -- What (x, y) counts for.
 unfoldable pub worth : List ℕ → ℕ → ℕ → ℕ → Labelled
 worth s w x y =
-    record {
-      rocks = rockBit (at s w x y);
-      shut = shutBit (at s w x y);
-      groups = closedBit (at s w x y) - (westBit s w x y + southBit s w x y);
-    }
+    counted (rockBit (at s w x y)) (shutBit (at s w x y)) (closedBit (at s w x y) - (westBit s w x y + southBit s w x y))
 
 -- Sums of such counts: of two, and of f 0, f 1, .., f (n - 1).
 unfoldable pub sumOf : Labelled → Labelled → Labelled
-sumOf a b = record { rocks = a .rocks + b .rocks; shut = a .shut + b .shut; groups = a .groups + b .groups }
+sumOf a b = counted (a .rocks + b .rocks) (a .shut + b .shut) (a .groups + b .groups)
 
 unfoldable pub total : ℕ → (ℕ → Labelled) → Labelled
-total zero f = record { rocks = 0; shut = 0; groups = 0 }
+total zero f = counted 0 0 0
 total (suc n) f = sumOf (total n f) (f n)
 
 -- The sums fit.

@@ -6,7 +6,7 @@ use native.Mathlib.Omega.{arith}
 use lib.ListN.{length, getD, set}
 use Rattle.field.specs.Map.{number, at}
 use Rattle.labels.specs.declared.Labelled.{Labelled}
-use Rattle.labels.specs.Settling.{worth, sumOf, total, Adding, Turned, Settling, Settled, SettlingRow, SettledRow, SettlingAll, SettledAll}
+use Rattle.labels.specs.Settling.{counted, worth, sumOf, total, Adding, Turned, Settling, Settled, SettlingRow, SettledRow, SettlingAll, SettledAll}
 use Rattle.labels.proofs.Laws.Bytes.{row-ends}
 use Rattle.labels.proofs.Laws.Settling.{turned-none, turned-one, turned-on, turned-passed, turned-worth}
 use Rattle.labels.proofs.Laws.Totals.{total-none, total-next, total-same, Most, most-at, total-most, worth-most, most-adding}
@@ -24,9 +24,9 @@ pub record RowTo (w y : ℕ) (s t : List ℕ) (r : Labelled) (x : ℕ) : Type 0 
   pub turned : Turned s t (y * w) (y * w + x)
   pub counts : r ≡ total x (λ i. worth s w i y)
 
-pub row-start : (w y : ℕ) (s : List ℕ) → RowTo w y s s (record { rocks = 0; shut = 0; groups = 0 }) 0
-row-start w y s =
-    record { in-row = omega arith; turned = turned-at refl (omega arith) (turned-none s (y * w)); counts = sym (total-none (λ i. worth s w i y)) }
+pub row-start : (w y : ℕ) (s : List ℕ) {r : Labelled} → r ≡ counted 0 0 0 → RowTo w y s s r 0
+row-start w y s e =
+    record { in-row = omega arith; turned = turned-at refl (omega arith) (turned-none s (y * w)); counts = e ∙ sym (total-none (λ i. worth s w i y)) }
 
 module _ {w y x : ℕ} {s t : List ℕ} {r : Labelled} (p : SettlingRow w y s) (T : RowTo w y s t r x) where
   pub row-settling : x < w → Settling w x y t
@@ -61,12 +61,12 @@ pub record RowsTo (w h : ℕ) (s t : List ℕ) (r : Labelled) (y : ℕ) : Type 0
   pub turned : Turned s t 0 (y * w)
   pub counts : r ≡ total y (λ j. total w (λ i. worth s w i j))
 
-pub rows-start : (w h : ℕ) (s : List ℕ) → RowsTo w h s s (record { rocks = 0; shut = 0; groups = 0 }) 0
-rows-start w h s =
+pub rows-start : (w h : ℕ) (s : List ℕ) {r : Labelled} → r ≡ counted 0 0 0 → RowsTo w h s s r 0
+rows-start w h s e =
     record {
       in-map = omega arith;
       turned = turned-at refl (omega arith) (turned-none s 0);
-      counts = sym (total-none (λ j. total w (λ i. worth s w i j)));
+      counts = e ∙ sym (total-none (λ j. total w (λ i. worth s w i j)));
     }
 
 module _ {w h y : ℕ} {s t : List ℕ} {r : Labelled} (p : SettlingAll w h s) (T : RowsTo w h s t r y) where

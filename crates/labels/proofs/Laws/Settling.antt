@@ -13,7 +13,7 @@ use Rattle.field.specs.Map.{number, at}
 use Rattle.labels.specs.declared.Labelled.{Labelled}
 use Rattle.labels.specs.Work.{Free}
 use Rattle.labels.specs.Gathering.{settled}
-use Rattle.labels.specs.Settling.{rockBit, shutBit, closedBit, westBit, southBit, worth, sumOf, total, Passed, Turned}
+use Rattle.labels.specs.Settling.{counted, rockBit, shutBit, closedBit, westBit, southBit, worth, sumOf, total, Passed, Turned}
 use Rattle.labels.proofs.Laws.Bytes.{shown-free}
 use Rattle.labels.proofs.Laws.Bits.{rock-one, rock-none, shut-one, shut-none, closed-one, closed-none, west-none, west-at, south-none, south-at}
 use Rattle.labels.proofs.Laws.Draining.{settled-low, settled-high}
@@ -123,19 +123,19 @@ labelled-same p q r = λ i. record { rocks = p i; shut = q i; groups = r i }
 
 -- What an open crossing, a rock and a shut crossing count for.
 module _ (s : List ℕ) (w x y : ℕ) where
-  pub worth-open : Free (at s w x y) → record { rocks = 0; shut = 0; groups = 0 } ≡ worth s w x y
+  pub worth-open : Free (at s w x y) → counted 0 0 0 ≡ worth s w x y
   unfolding worth
   worth-open f =
       labelled-same (sym (rock-none (at s w x y) (λ e. shown-free (at s w x y) (omega arith) f)))
       (sym (shut-none (at s w x y) (λ e. shown-free (at s w x y) (omega arith) f))) (omega (arith, closed-none (at s w x y) f))
 
   module _ (n : ℕ) (e : n ≡ 1 - (westBit s w x y + southBit s w x y)) where
-    pub worth-rock : at s w x y ≡ 1 → record { rocks = 1; shut = 0; groups = n } ≡ worth s w x y
+    pub worth-rock : at s w x y ≡ 1 → counted 1 0 n ≡ worth s w x y
     unfolding worth
     worth-rock f =
         labelled-same (sym (rock-one (at s w x y) f)) (sym (shut-none (at s w x y) (omega arith))) (omega (arith, closed-one (at s w x y) (omega arith)))
 
-    pub worth-shut : at s w x y ≡ 2 → record { rocks = 0; shut = 1; groups = n } ≡ worth s w x y
+    pub worth-shut : at s w x y ≡ 2 → counted 0 1 n ≡ worth s w x y
     unfolding worth
     worth-shut f =
         labelled-same (sym (rock-none (at s w x y) (omega arith))) (sym (shut-one (at s w x y) f)) (omega (arith, closed-one (at s w x y) (omega arith)))

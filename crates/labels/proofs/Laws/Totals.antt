@@ -10,9 +10,9 @@ use Rattle.field.specs.Map.{at}
 use Rattle.field.specs.Labels.{sumTo}
 use Rattle.field.specs.Workings.Marks.{bit-le}
 use Rattle.labels.specs.declared.Labelled.{Labelled}
-use Rattle.labels.specs.Settling.{rockBit, shutBit, closedBit, westBit, southBit, worth, sumOf, total, Adding}
+use Rattle.labels.specs.Settling.{counted, rockBit, shutBit, closedBit, westBit, southBit, worth, sumOf, total, Adding}
 
-pub total-none : (f : ℕ → Labelled) → total 0 f ≡ record { rocks = 0; shut = 0; groups = 0 }
+pub total-none : (f : ℕ → Labelled) → total 0 f ≡ counted 0 0 0
 unfolding total
 total-none f = refl
 
