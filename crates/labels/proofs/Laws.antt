@@ -1,5 +1,7 @@
--- What the labelling's steps come to. Bytes, Notes and Stacks have the laws of what is written; Working is what stays true while the stack is
--- drained, and Looking carries it from step to step.
+-- What the labelling's steps come to, in the order of the argument: what is written (Bytes, Notes, Stacks); what stays true while the stack is
+-- drained (Working), at one touch (Touching), while there is room (Rooms), and around a crossing (Looking); from the rocks (Gathering) to the
+-- smallest set (Draining); what a byte counts for (Bits), with its note and without (Settling), summed up (Totals) row by row (Rows); and that
+-- all this is the promise (Labels).
 pub mod Bytes
 pub mod Notes
 pub mod Stacks

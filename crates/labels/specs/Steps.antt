@@ -4,9 +4,9 @@ use mathlib.Core.Path.{_≡_}
 use mathlib.Core.List.{List}
 use mathlib.Core.Logic.{_⊎_}
 use Prim.Native.Nat.{ℕ, _+_, _*_, _<_, _≤_}
-use lib.ListN.{length, getD, set}
+use lib.ListN.{length, set}
 use Rattle.field.specs.Map.{Sides, On, number, at}
-use Rattle.labels.specs.Work.{Shown, Free, freeTo, Noted, packed, Packs}
+use Rattle.labels.specs.Work.{Shown, Free, freeTo, toEast, toSouth, toWest, toNorth, Noted, packed, Packs}
 
 -- (x, y) can be touched: the sheet has it, and the stack has room for it if it is open so far.
 pub record Touching (w x y : ℕ) (s stack : List ℕ) (k : ℕ) : Type 0 where
@@ -47,7 +47,7 @@ pub record Looked (w h x y : ℕ) (s t stack after : List ℕ) (k r : ℕ) : Typ
   pub k₁ : ℕ
   pub k₂ : ℕ
   pub k₃ : ℕ
-  pub to-east : Step w h 3 5 x y s s₁ stack stack₁ k k₁
-  pub to-south : Step w h 4 6 x y s₁ s₂ stack₁ stack₂ k₁ k₂
-  pub to-west : Step w h 5 3 x y s₂ s₃ stack₂ stack₃ k₂ k₃
-  pub to-north : Step w h 6 4 x y s₃ t stack₃ after k₃ r
+  pub to-east : Step w h toEast toWest x y s s₁ stack stack₁ k k₁
+  pub to-south : Step w h toSouth toNorth x y s₁ s₂ stack₁ stack₂ k₁ k₂
+  pub to-west : Step w h toWest toEast x y s₂ s₃ stack₂ stack₃ k₂ k₃
+  pub to-north : Step w h toNorth toSouth x y s₃ t stack₃ after k₃ r

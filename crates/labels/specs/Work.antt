@@ -29,12 +29,25 @@ unfoldable pub freeTo : List ℕ → ℕ → ℕ
 freeTo s zero = 0
 freeTo s (suc n) = freeTo s n + freeBit (getD s n 0)
 
--- The neighbour of (x, y) that the note n names: 3 its east one, 4 its south one, 5 its west one, 6 its north one.
+-- The notes.
+abbrev pub toEast : ℕ
+toEast = 3
+
+abbrev pub toSouth : ℕ
+toSouth = 4
+
+abbrev pub toWest : ℕ
+toWest = 5
+
+abbrev pub toNorth : ℕ
+toNorth = 6
+
+-- The neighbour of (x, y) that the note n names.
 pub data Noted (n x y a b : ℕ) : Type 0 where
-  note-east : n ≡ 3 → a ≡ x + 1 → b ≡ y → Noted n x y a b
-  note-south : n ≡ 4 → a ≡ x → b + 1 ≡ y → Noted n x y a b
-  note-west : n ≡ 5 → a + 1 ≡ x → b ≡ y → Noted n x y a b
-  note-north : n ≡ 6 → a ≡ x → b ≡ y + 1 → Noted n x y a b
+  note-east : n ≡ toEast → a ≡ x + 1 → b ≡ y → Noted n x y a b
+  note-south : n ≡ toSouth → a ≡ x → b + 1 ≡ y → Noted n x y a b
+  note-west : n ≡ toWest → a + 1 ≡ x → b ≡ y → Noted n x y a b
+  note-north : n ≡ toNorth → a ≡ x → b ≡ y + 1 → Noted n x y a b
 
 -- A crossing on the stack is one number: x in the low byte, y above it.
 abbrev pub packed : ℕ → ℕ → ℕ
@@ -46,6 +59,7 @@ xOf v = v % 256
 abbrev pub yOf : ℕ → ℕ
 yOf v = v / 256
 
+-- A crossing that goes into such a number.
 pub record Packs (x y : ℕ) : Type 0 where
   pub low : x < 256
   pub high : y < 256

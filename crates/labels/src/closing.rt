@@ -3,7 +3,7 @@
 ghost use mathlib.Core.Path.{_≡_};
 ghost use Prim.Native.Nat.{_+_, _*_};
 ghost use Rattle.labels.specs.Promise.{Stones, Stamped};
-ghost use Rattle.labels.specs.Work.{packed, Packs};
+ghost use Rattle.labels.specs.Work.{toEast, toSouth, toWest, toNorth, packed, Packs};
 ghost use Rattle.labels.specs.Gathering.{GatheringOne, GatheringRow, Gathering, Gathered, Draining, Worked};
 ghost use Rattle.labels.specs.Steps.{Touching, Touched, Looking, Step, Looked};
 
@@ -26,15 +26,7 @@ fn pack(x: usize, y: usize) -> u16
 
 // The crossing (x, y) has a closed neighbour in the direction that `note` tells. Notes it, or shuts the crossing and puts it on the stack where
 // another neighbour was noted before. Hands back the stack's height.
-fn touch(
-    s: &mut [u8],
-    w: usize,
-    x: usize,
-    y: usize,
-    note: u8,
-    stack: &mut [u16],
-    k: usize,
-) -> usize
+fn touch(s: &mut [u8], w: usize, x: usize, y: usize, note: u8, stack: &mut [u16], k: usize) -> usize
     requires { ⌜ Touching w x y (now s) (now stack) k ⌝ }
     ensures { λ r. ⌜ Touched w x y note (now (s .entry)) (now (s .exit)) (now (stack .entry)) (now (stack .exit)) k r ⌝ }
 {
@@ -55,7 +47,8 @@ fn touch(
     k + 1
 }
 
-// Touches the neighbour on each side, where the map has one.
+// Touches the neighbour of the closed crossing (x, y) on each side, where the map has one. All four are told the whole map, so that one promise
+// says what they do.
 fn touch_east(
     s: &mut [u8],
     w: usize,
@@ -66,7 +59,7 @@ fn touch_east(
     k: usize,
 ) -> usize
     requires { ⌜ Looking w h x y (now s) (now stack) k ⌝ }
-    ensures { λ r. ⌜ Step w h 3 5 x y (now (s .entry)) (now (s .exit)) (now (stack .entry)) (now (stack .exit)) k r ⌝ }
+    ensures { λ r. ⌜ Step w h toEast toWest x y (now (s .entry)) (now (s .exit)) (now (stack .entry)) (now (stack .exit)) k r ⌝ }
 {
     if x + 1 < w {
         return touch(s, w, x + 1, y, WEST, stack, k);
@@ -84,7 +77,7 @@ fn touch_south(
     k: usize,
 ) -> usize
     requires { ⌜ Looking w h x y (now s) (now stack) k ⌝ }
-    ensures { λ r. ⌜ Step w h 4 6 x y (now (s .entry)) (now (s .exit)) (now (stack .entry)) (now (stack .exit)) k r ⌝ }
+    ensures { λ r. ⌜ Step w h toSouth toNorth x y (now (s .entry)) (now (s .exit)) (now (stack .entry)) (now (stack .exit)) k r ⌝ }
 {
     if 0 < y {
         return touch(s, w, x, y - 1, NORTH, stack, k);
@@ -102,7 +95,7 @@ fn touch_west(
     k: usize,
 ) -> usize
     requires { ⌜ Looking w h x y (now s) (now stack) k ⌝ }
-    ensures { λ r. ⌜ Step w h 5 3 x y (now (s .entry)) (now (s .exit)) (now (stack .entry)) (now (stack .exit)) k r ⌝ }
+    ensures { λ r. ⌜ Step w h toWest toEast x y (now (s .entry)) (now (s .exit)) (now (stack .entry)) (now (stack .exit)) k r ⌝ }
 {
     if 0 < x {
         return touch(s, w, x - 1, y, EAST, stack, k);
@@ -120,7 +113,7 @@ fn touch_north(
     k: usize,
 ) -> usize
     requires { ⌜ Looking w h x y (now s) (now stack) k ⌝ }
-    ensures { λ r. ⌜ Step w h 6 4 x y (now (s .entry)) (now (s .exit)) (now (stack .entry)) (now (stack .exit)) k r ⌝ }
+    ensures { λ r. ⌜ Step w h toNorth toSouth x y (now (s .entry)) (now (s .exit)) (now (stack .entry)) (now (stack .exit)) k r ⌝ }
 {
     if y + 1 < h {
         return touch(s, w, x, y + 1, SOUTH, stack, k);
@@ -128,7 +121,7 @@ fn touch_north(
     k
 }
 
-// Looks around the closed crossing (x, y).
+// Looks around the closed crossing (x, y): each neighbour gets to know of it. Hands back the stack's height.
 fn look_around(
     s: &mut [u8],
     w: usize,
@@ -141,13 +134,13 @@ fn look_around(
     requires { ⌜ Looking w h x y (now s) (now stack) k ⌝ }
     ensures { λ r. ⌜ Looked w h x y (now (s .entry)) (now (s .exit)) (now (stack .entry)) (now (stack .exit)) k r ⌝ }
 {
-    let e = touch_east(s, w, h, x, y, stack, k);
-    let d = touch_south(s, w, h, x, y, stack, e);
-    let f = touch_west(s, w, h, x, y, stack, d);
-    touch_north(s, w, h, x, y, stack, f)
+    let east = touch_east(s, w, h, x, y, stack, k);
+    let south = touch_south(s, w, h, x, y, stack, east);
+    let west = touch_west(s, w, h, x, y, stack, south);
+    touch_north(s, w, h, x, y, stack, west)
 }
 
-// Puts (x, y) on the stack if it is a rock.
+// Puts (x, y) on the stack if it is a rock. Hands back the stack's height, as the next two do.
 fn gather_one(s: &[u8], w: usize, x: usize, y: usize, stack: &mut [u16], height: usize) -> usize
     requires { ⌜ GatheringOne w x y (now s) (now stack) height ⌝ }
     ensures { λ r. ⌜ Gathered w (now (s .entry)) (now (stack .exit)) r (y * w + x + 1) ⌝ }
@@ -207,12 +200,15 @@ fn drain(s: &mut [u8], w: usize, h: usize, stack: &mut [u16], height: usize)
     }
 }
 
+// The crossings of the largest map: the stack has a slot for each.
+const MOST: usize = 4096;
+
 // Shuts every crossing of the smallest set that is no rock, and leaves notes at others.
 pub fn close(s: &mut [u8], w: usize, h: usize)
     requires { ⌜ Stamped w h (now s) ⌝ }
     ensures { λ r. ⌜ Worked (Stones w h (now (s .entry))) w h (now (s .exit)) ⌝ }
 {
-    let mut stack = [0u16; 4096];
+    let mut stack = [0u16; MOST];
     let k = gather(s, w, h, &mut stack);
     drain(s, w, h, &mut stack, k);
 }

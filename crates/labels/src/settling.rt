@@ -3,7 +3,8 @@
 use super::Labelled;
 ghost use mathlib.Core.Path.{_≡_};
 ghost use Prim.Native.Nat.{_+_, _-_};
-ghost use Rattle.labels.specs.Settling.{counted, sumOf, Adding, westBit, southBit, Settling, Settled, SettlingRow, SettledRow, SettlingAll, SettledAll};
+ghost use Rattle.labels.specs.Settling.{counted, sumOf, Adding, westBit, southBit};
+ghost use Rattle.labels.specs.Settling.{Settling, Settled, SettlingRow, SettledRow, SettlingAll, SettledAll};
 
 // Three counts as one value.
 fn counts(rocks: usize, shut: usize, groups: usize) -> Labelled

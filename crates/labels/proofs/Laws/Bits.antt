@@ -2,17 +2,14 @@
 use mathlib.Core.Path.{_≡_, refl, sym, ap, _∙_}
 use mathlib.Core.List.{List}
 use mathlib.Core.Logic.{inl}
-use Prim.Native.Nat.{ℕ, zero, suc, _+_, _*_, _-_, _<_, _≤_}
+use Prim.Native.Nat.{ℕ, zero, suc, _+_, _*_, _-_, _<_}
 use native.Mathlib.Omega.{arith}
 use native.Mathlib.Nat.{suc-mul}
-use native.Mathlib.Decide.{decLt, ℕ-discrete}
-use lib.Dec.{eqb}
-use lib.ListN.{length, getD}
+use lib.ListN.{getD}
 use borrow.Author.Tests.{eq-eqb, ne-eqb}
 use Rattle.field.specs.Map.{number, at}
-use Rattle.field.specs.Workings.Sheet.{bit}
 use Rattle.labels.specs.Work.{Shown, Free}
-use Rattle.labels.specs.Settling.{rockBit, shutBit, closedBit, westBit, southBit, Passed, Settling}
+use Rattle.labels.specs.Settling.{rockBit, shutBit, closedBit, westBit, southBit, Settling}
 use Rattle.labels.proofs.Laws.Bytes.{free-bit, shown-bit}
 
 pub rock-one : (b : ℕ) → b ≡ 1 → rockBit b ≡ 1

@@ -1,9 +1,9 @@
 -- Laws of a sheet's bytes while the labelling works: a byte is one of a closed or of an open crossing; writing one byte changes it alone; and the
 -- number of open crossings goes by what is written.
-use mathlib.Core.Path.{_≡_, refl, sym, ap, _∙_}
+use mathlib.Core.Path.{_≡_, refl, ap, _∙_}
 use mathlib.Core.List.{List}
-use mathlib.Core.Logic.{_⊎_, inl, inr, _≢_}
-use Prim.Native.Nat.{ℕ, zero, suc, min, _+_, _*_, _-_, _<_, _≤_}
+use mathlib.Core.Logic.{_⊎_, inl, inr}
+use Prim.Native.Nat.{ℕ, zero, suc, _+_, _*_, _<_, _≤_}
 use native.Mathlib.Omega.{arith}
 use native.Mathlib.Nat.{mul-le-mul-right}
 use native.Mathlib.Decide.{decLt, ℕ-discrete}
@@ -12,7 +12,7 @@ use lib.Seq.{getD-set-same, getD-set-other}
 use Rattle.field.specs.Map.{On, number, at, Apart}
 use Rattle.field.specs.Workings.Sheet.{number-lt}
 use Rattle.field.specs.Workings.GridLaws.{number-one}
-use Rattle.labels.specs.Work.{Shown, Free, Seen, freeBit, freeTo}
+use Rattle.labels.specs.Work.{Shown, Free, freeBit, freeTo}
 
 -- Every byte is of one kind, and no byte of both.
 pub byte-kind : (b : ℕ) → Shown b ⊎ Free b

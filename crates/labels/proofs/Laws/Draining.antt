@@ -1,23 +1,21 @@
 -- Draining the stack, from the rocks to the labels. At first the rocks are closed and wait, and nothing is noted. When nothing waits any more, an
 -- open crossing has noted each of its closed neighbours, so that it has at most one: what is closed is stable, and so is the smallest set.
-use mathlib.Core.Path.{_≡_, refl, sym, ap, _∙_}
-use mathlib.Core.Bool.{cond}
+use mathlib.Core.Path.{_≡_, _∙_}
 use mathlib.Core.List.{List}
 use mathlib.Core.Logic.{_⊎_, inl, inr}
-use Prim.Native.Nat.{ℕ, suc, _+_, _*_, _-_, _<_, _≤_}
+use Prim.Native.Nat.{ℕ, _+_, _*_, _<_, _≤_}
 use native.Mathlib.Omega.{arith}
 use native.Mathlib.Nat.{mul-le-mul-right}
 use native.Mathlib.Decide.{decLt, ℕ-discrete}
-use lib.Dec.{ltb}
 use lib.ListN.{length, getD}
 use borrow.Author.Tests.{lt-ltb, le-ltb}
-use Rattle.field.specs.Map.{Sides, On, number, at, Near, Apart}
-use Rattle.field.specs.Labels.{Closed, rock, Stable, smallest, RockOn, Label, is-open, is-rock, is-shut}
-use Rattle.field.specs.Workings.Sheet.{Marked, number-lt}
+use Rattle.field.specs.Map.{Sides, On, number, at, Near}
+use Rattle.field.specs.Labels.{Closed, rock, Stable, smallest, Label, is-open, is-rock, is-shut}
+use Rattle.field.specs.Workings.Sheet.{number-lt}
 use Rattle.labels.specs.Promise.{Stamped, Stones}
-use Rattle.labels.specs.Work.{Shown, Free, Seen, freeTo, Noted, xOf, yOf, Waits}
+use Rattle.labels.specs.Work.{Shown, Free, Seen, freeTo, Noted, xOf, yOf}
 use Rattle.labels.specs.Steps.{Looking, Looked}
-use Rattle.labels.specs.Gathering.{Gathers, Gathered, Draining, settled, Worked}
+use Rattle.labels.specs.Gathering.{Gathered, Draining, settled, Worked}
 use Rattle.labels.proofs.Laws.Bytes.{byte-kind, shown-free}
 use Rattle.labels.proofs.Laws.Notes.{noted-one}
 use Rattle.labels.proofs.Laws.Stacks.{waits-none}

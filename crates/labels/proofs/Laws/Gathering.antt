@@ -1,8 +1,8 @@
 -- Gathering the rocks, crossing by crossing: each is put on the stack or counts as open.
-use mathlib.Core.Path.{_≡_, refl, sym, ap, _∙_}
+use mathlib.Core.Path.{_≡_}
 use mathlib.Core.List.{List}
 use mathlib.Core.Logic.{inl}
-use Prim.Native.Nat.{ℕ, zero, suc, _+_, _*_, _<_, _≤_}
+use Prim.Native.Nat.{ℕ, _+_, _*_, _<_}
 use native.Mathlib.Omega.{arith}
 use native.Mathlib.Numerals.{add-one}
 use native.Mathlib.Decide.{ℕ-discrete}
@@ -10,7 +10,7 @@ use lib.ListN.{length, getD, set}
 use lib.Seq.{getD-set-same, getD-set-other}
 use Rattle.field.specs.Map.{number, at}
 use Rattle.field.specs.Workings.GridLaws.{number-one}
-use Rattle.labels.specs.Work.{freeBit, freeTo, packed, xOf, yOf, Packs, Waits}
+use Rattle.labels.specs.Work.{freeBit, freeTo, packed, Packs, Waits}
 use Rattle.labels.specs.Gathering.{Gathers, Gathered, GatheringRow, Gathering}
 use Rattle.labels.proofs.Laws.Bytes.{free-bit, shown-bit, row-ends}
 use Rattle.labels.proofs.Laws.Stacks.{x-packed, y-packed, waits-push, waits-top}
@@ -50,7 +50,9 @@ module _ (w x y k : ℕ) (s stack : List ℕ) (g : Gathered w s stack k (number 
   every-next {after} {r} f keep a b q l j = go (ℕ-discrete (number w a b) (number w x y))
     where
       go : Dec (number w a b ≡ number w x y) → Waits after r a b
-      go (yes m) = let u = number-one {h = y + b + 1} (record { in-x = p; in-y = omega arith }) (record { in-x = q; in-y = omega arith }) m in rw (u .0, u .1) (f (rw m at j))
+      go (yes m) =
+          let u = number-one {h = y + b + 1} (record { in-x = p; in-y = omega arith }) (record { in-x = q; in-y = omega arith }) m in
+          rw (u .0, u .1) (f (rw m at j))
       go (no m) = keep a b (g .every a b q (omega arith) j)
 
   pub gathered-open : at s w x y ≡ 0 → Gathered w s stack k (number w x y + 1)

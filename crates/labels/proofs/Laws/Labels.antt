@@ -2,13 +2,12 @@
 -- whether it is a rock, shut, or a corner; so the bits count the crossings that are. The corners are as many as the groups.
 use mathlib.Core.Path.{_≡_, refl, sym, ap, _∙_}
 use mathlib.Core.List.{List}
-use mathlib.Core.Logic.{_⊎_, inl, inr}
-use Prim.Native.Nat.{ℕ, zero, suc, _+_, _*_, _-_, _<_, _≤_}
+use mathlib.Core.Logic.{inl}
+use Prim.Native.Nat.{ℕ, zero, suc, _+_, _-_, _<_}
 use native.Mathlib.Omega.{arith}
 use native.Mathlib.Decide.{decLt}
-use lib.ListN.{length, getD}
 use Rattle.field.specs.Map.{On, number, at}
-use Rattle.field.specs.Labels.{Closed, rock, closed-on-map, Open, Shut, RockOn, Label, is-open, is-rock, is-shut, LabelSheet, sumTo, one, Count}
+use Rattle.field.specs.Labels.{Closed, rock, closed-on-map, Shut, RockOn, Label, is-open, is-rock, is-shut, LabelSheet, one, Count}
 use Rattle.field.specs.Groups.{Groups}
 use Rattle.field.specs.Geometry.Shapes.{Corner}
 use Rattle.field.specs.Geometry.Theorems.{groups-corners}
@@ -18,7 +17,7 @@ use Rattle.field.specs.Workings.Labelling.{label-sheet-draws}
 use Rattle.field.specs.Workings.Counting.{tally, sum-same, count-tally}
 use Rattle.labels.specs.declared.Labelled.{Labelled}
 use Rattle.labels.specs.Promise.{Stones, Labels}
-use Rattle.labels.specs.Gathering.{settled, Worked}
+use Rattle.labels.specs.Gathering.{Worked}
 use Rattle.labels.specs.Settling.{rockBit, shutBit, closedBit, westBit, southBit, worth, total, SettledAll}
 use Rattle.labels.proofs.Laws.Bits.{rock-one, rock-none, shut-one, shut-none, closed-one, closed-none, west-none, west-at, south-none, south-at}
 use Rattle.labels.proofs.Laws.Settling.{turned-worth}
@@ -37,22 +36,22 @@ tells-one (no f) (is-not g e) = sym e
 
 -- Bits that tell of each crossing of the map whether it is in P count the crossings of P.
 module _ (w h : ℕ) (P : ℕ → ℕ → Type 0) (f : ℕ → ℕ → ℕ) (on : (x y : ℕ) → P x y → On w h x y) (t : (x y : ℕ) → On w h x y → Tells (P x y) (f x y))
-    where
-  tells-dec : (x y : ℕ) → Dec (P x y)
-  tells-dec x y = go (decLt x w) (decLt y h)
-    where
-      told : Tells (P x y) (f x y) → Dec (P x y)
-      told (is-so p e) = yes p
-      told (is-not n e) = no n
+  where
+    tells-dec : (x y : ℕ) → Dec (P x y)
+    tells-dec x y = go (decLt x w) (decLt y h)
+      where
+        told : Tells (P x y) (f x y) → Dec (P x y)
+        told (is-so p e) = yes p
+        told (is-not n e) = no n
 
-      go : Dec (x < w) → Dec (y < h) → Dec (P x y)
-      go (yes p) (yes q) = told (t x y (record { in-x = p; in-y = q }))
-      go (yes p) (no q) = no (λ v. q (on x y v .in-y))
-      go (no p) q = no (λ v. p (on x y v .in-x))
+        go : Dec (x < w) → Dec (y < h) → Dec (P x y)
+        go (yes p) (yes q) = told (t x y (record { in-x = p; in-y = q }))
+        go (yes p) (no q) = no (λ v. q (on x y v .in-y))
+        go (no p) q = no (λ v. p (on x y v .in-x))
 
-  count-told : (n : ℕ) → n ≡ tally w h f → Count w h P n
-  count-told n e =
-      (tells-dec, e ∙ sym (count-tally w h P tells-dec f (λ x y p q. tells-one (tells-dec x y) (t x y (record { in-x = p; in-y = q })))))
+    count-told : (n : ℕ) → n ≡ tally w h f → Count w h P n
+    count-told n e =
+        (tells-dec, e ∙ sym (count-tally w h P tells-dec f (λ x y p q. tells-one (tells-dec x y) (t x y (record { in-x = p; in-y = q })))))
 
 -- A label sheet.
 module _ (R : ℕ → ℕ → Type 0) (w h : ℕ) (t : List ℕ) (L : LabelSheet R w h t) where

@@ -1,15 +1,15 @@
 -- Looking around a crossing that is taken off the stack keeps what stays true. At first all its neighbours are excused; each look settles one
 -- direction, and after the fourth nobody is excused.
-use mathlib.Core.Path.{_≡_, refl, sym, ap, _∙_}
+use mathlib.Core.Path.{_≡_}
 use mathlib.Core.List.{List}
 use mathlib.Core.Logic.{_⊎_, inl, inr}
-use Prim.Native.Nat.{ℕ, _+_, _*_, _-_, _<_, _≤_}
+use Prim.Native.Nat.{ℕ, _+_, _*_, _<_}
 use native.Mathlib.Omega.{arith}
 use native.Mathlib.Decide.{ℕ-discrete}
-use lib.ListN.{length, getD, set}
-use Rattle.field.specs.Map.{On, number, at, Near}
-use Rattle.labels.specs.Work.{Shown, Free, Seen, Noted, xOf, yOf, Waits}
-use Rattle.labels.specs.Steps.{Touching, Touched, noted, shut, kept, Looking, Step, edge, beside, Looked}
+use lib.ListN.{length, getD}
+use Rattle.field.specs.Map.{On, at, Near}
+use Rattle.labels.specs.Work.{Seen, toEast, toSouth, toWest, toNorth, Noted, xOf, yOf, Waits}
+use Rattle.labels.specs.Steps.{Touched, noted, shut, kept, Looking, Step, edge, beside, Looked}
 use Rattle.labels.proofs.Laws.Notes.{noted-high, noted-one, near-noted}
 use Rattle.labels.proofs.Laws.Stacks.{waits-pop}
 use Rattle.labels.proofs.Laws.Working.{Excuse, Knows, waits, has-noted, excused, Working, seen-keeps}
@@ -77,7 +77,7 @@ module _ (R : ℕ → ℕ → Type 0) (w h x y : ℕ) where
       working-touched R w h a b n x y s stack k (Untold x y d) (Untold x y (d + 1)) o v z (told d a b m) W (g .room) (g .packs) u
 
   -- All four.
-  pub working-looked : {k r : ℕ} {s t stack after : List ℕ} → Looking w h x y s stack k → Seen w h s x y → Working R w h s stack k (Untold x y 3)
+  pub working-looked : {k r : ℕ} {s t stack after : List ℕ} → Looking w h x y s stack k → Seen w h s x y → Working R w h s stack k (Untold x y toEast)
       → Looked w h x y s t stack after k r → Working R w h t after r Nobody
   working-looked l z W p =
       let l₁ = looking-step l (p .to-east) in
@@ -91,24 +91,25 @@ module _ (R : ℕ → ℕ → Type 0) (w h x y : ℕ) where
       let w₃ = working-step l₂ z₂ w₂ (p .to-west) in
       working-excuse nobody (working-step l₃ z₃ w₃ (p .to-north))
     where
-      nobody : (p q a b : ℕ) → On w h p q → Near p q a b → Untold x y 7 p q a b → Nobody p q a b
+      nobody : (p q a b : ℕ) → On w h p q → Near p q a b → Untold x y (toNorth + 1) p q a b → Nobody p q a b
       nobody p q a b o n u =
-          near-noted (rw (u .x-is, u .y-is) at n) (u .ahead 3 (omega arith)) (u .ahead 4 (omega arith)) (u .ahead 5 (omega arith)) (u .ahead 6 (omega arith))
+          near-noted (rw (u .x-is, u .y-is) at n) (u .ahead toEast (omega arith)) (u .ahead toSouth (omega arith)) (u .ahead toWest (omega arith))
+          (u .ahead toNorth (omega arith))
 
 -- The last crossing put on the stack is taken off: only of it somebody may not know.
+abbrev Popped : List ℕ → ℕ → Excuse
+Popped stack k = Untold (xOf (getD stack k 0)) (yOf (getD stack k 0)) toEast
+
 pub working-pop : {R : ℕ → ℕ → Type 0} {w h k : ℕ} {s stack : List ℕ} → Working R w h s stack (k + 1) Nobody
-    → Working R w h s stack k (Untold (xOf (getD stack k 0)) (yOf (getD stack k 0)) 3)
+    → Working R w h s stack k (Popped stack k)
 working-pop {R} {w} {h} {k} {s} {stack} W =
     record { sheet = W .sheet; stacked = λ i l. W .stacked i (omega arith); knows = λ p q a b o g n z. go p q a b (W .knows p q a b o g n z) }
   where
-    E : Excuse
-    E = Untold (xOf (getD stack k 0)) (yOf (getD stack k 0)) 3
-
-    go : (p q a b : ℕ) → Knows w s stack (k + 1) Nobody p q a b → Knows w s stack k (Untold (xOf (getD stack k 0)) (yOf (getD stack k 0)) 3) p q a b
+    go : (p q a b : ℕ) → Knows w s stack (k + 1) Nobody p q a b → Knows w s stack k (Popped stack k) p q a b
     go p q a b (has-noted z) = has-noted z
     go p q a b (excused z) = absurd z
     go p q a b (waits z) = last (waits-pop stack k z)
       where
-        last : Waits stack k a b ⊎ ((a ≡ xOf (getD stack k 0)) × (b ≡ yOf (getD stack k 0))) → Knows w s stack k (Untold (xOf (getD stack k 0)) (yOf (getD stack k 0)) 3) p q a b
+        last : Waits stack k a b ⊎ ((a ≡ xOf (getD stack k 0)) × (b ≡ yOf (getD stack k 0))) → Knows w s stack k (Popped stack k) p q a b
         last (inl v) = waits v
         last (inr v) = excused (record { x-is = v .0; y-is = v .1; ahead = λ i l m. omega (arith, noted-high m) })

@@ -3,7 +3,7 @@ use mathlib.Core.Path.{_≡_, refl, sym, ap, _∙_}
 use Prim.Native.Nat.{ℕ, _+_, _*_, _-_, _<_}
 use native.Mathlib.Omega.{arith}
 use Rattle.field.specs.Map.{On, Near, east, south, west, north, Apart}
-use Rattle.labels.specs.Work.{Noted, note-east, note-south, note-west, note-north}
+use Rattle.labels.specs.Work.{toEast, toSouth, toWest, toNorth, Noted, note-east, note-south, note-west, note-north}
 
 module _ {n x y a b : ℕ} where
   pub noted-near : Noted n x y a b → Near x y a b
@@ -21,7 +21,7 @@ module _ {n x y a b : ℕ} where
 -- Which neighbour it is tells the note.
 module _ (x y a b : ℕ) where
   which : ℕ
-  which = 3 * (a - x) + 4 * (y - b) + 5 * (x - a) + 6 * (b - y)
+  which = toEast * (a - x) + toSouth * (y - b) + toWest * (x - a) + toNorth * (b - y)
 
   noted-which : (n : ℕ) → Noted n x y a b → n ≡ which
   unfolding which
@@ -45,15 +45,9 @@ noted-one (note-west e p q) m =
 noted-one (note-north e p q) m =
     elim m [ note-east f r t ↦ omega arith | note-south f r t ↦ omega arith | note-west f r t ↦ omega arith | note-north f r t ↦ omega arith ]
 
--- The same neighbour, whatever its coordinates are called.
-pub noted-same : {n m x y a b c d : ℕ} → n ≡ m → a ≡ c → b ≡ d → Noted n x y a b → Noted m x y c d
-noted-same e f g (note-east p q r) = note-east (omega arith) (omega arith) (omega arith)
-noted-same e f g (note-south p q r) = note-south (omega arith) (omega arith) (omega arith)
-noted-same e f g (note-west p q r) = note-west (omega arith) (omega arith) (omega arith)
-noted-same e f g (note-north p q r) = note-north (omega arith) (omega arith) (omega arith)
-
 -- A neighbour that is on no side is none.
-pub near-noted : {x y a b : ℕ} → Near a b x y → ¬ Noted 3 x y a b → ¬ Noted 4 x y a b → ¬ Noted 5 x y a b → ¬ Noted 6 x y a b → ⊥
+pub near-noted : {x y a b : ℕ} → Near a b x y → ¬ Noted toEast x y a b → ¬ Noted toSouth x y a b → ¬ Noted toWest x y a b
+    → ¬ Noted toNorth x y a b → ⊥
 near-noted (east p q) e s w n = w (note-west refl (omega arith) (omega arith))
 near-noted (west p q) e s w n = e (note-east refl (omega arith) (omega arith))
 near-noted (north p q) e s w n = s (note-south refl (omega arith) (omega arith))
@@ -61,7 +55,7 @@ near-noted (south p q) e s w n = n (note-north refl (omega arith) (omega arith))
 
 -- Where the map has the neighbour on a side, it goes on there.
 pub noted-on : {w h d x y a b : ℕ} → On w h a b → Noted d x y a b
-    → (d ≡ 3 → x + 1 < w) × (d ≡ 4 → 0 < y) × (d ≡ 5 → 0 < x) × (d ≡ 6 → y + 1 < h)
+    → (d ≡ toEast → x + 1 < w) × (d ≡ toSouth → 0 < y) × (d ≡ toWest → 0 < x) × (d ≡ toNorth → y + 1 < h)
 noted-on o (note-east e p q) = omega arith
 noted-on o (note-south e p q) = omega arith
 noted-on o (note-west e p q) = omega arith

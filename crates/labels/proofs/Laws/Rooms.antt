@@ -1,28 +1,34 @@
 -- Room on the stack, and how long the work lasts. A crossing that is put on the stack was open so far and is closed from then on: so the crossings
 -- on the stack and the open ones are together as many after a step as before, and never more than the map has.
-use mathlib.Core.Path.{_≡_, refl, sym, ap, _∙_}
+use mathlib.Core.Path.{_≡_, refl, ap, _∙_}
 use mathlib.Core.List.{List}
-use mathlib.Core.Logic.{_⊎_, inl, inr}
+use mathlib.Core.Logic.{inl, inr}
 use Prim.Native.Nat.{ℕ, _+_, _*_, _<_, _≤_}
 use native.Mathlib.Omega.{arith}
-use native.Mathlib.Nat.{mul-le-mul-right}
-use lib.ListN.{length, getD, set, length-set}
+use native.Mathlib.Nat.{mul-le-mul-left, mul-le-mul-right}
+use lib.ListN.{length, set, length-set}
 use Rattle.field.specs.Map.{side, Sides, On, number, at}
 use Rattle.field.specs.Workings.Sheet.{number-lt}
-use Rattle.labels.specs.Work.{Shown, Free, freeBit, freeTo, Noted, packed, Packs}
+use Rattle.labels.specs.Work.{Free, freeBit, freeTo, Packs}
 use Rattle.labels.specs.Steps.{Touching, Touched, noted, shut, kept, Looking, Step, edge, beside, Looked}
 use Rattle.labels.proofs.Laws.Bytes.{free-bit, shown-bit, free-some, free-set}
 use Rattle.labels.proofs.Laws.Notes.{noted-high}
 
--- The stack has a slot for each crossing of the largest map.
-pub sides-stack : {w h : ℕ} → Sides w h → h * w ≤ 4096
+-- The limit's two uses: the stack has a slot for each crossing of the largest map, and a number of the stack holds any of its crossings.
+stack-most : side * side ≡ 4096
 unfolding side
-sides-stack {w} {h} s = omega (arith, s .most-w, mul-le-mul-right {m = h} {n = side} w (s .most-h))
+stack-most = refl
 
--- A crossing of the map goes into one number of the stack.
-pub on-packs : {w h x y : ℕ} → Sides w h → On w h x y → Packs x y
+packs-most : side ≤ 256
 unfolding side
-on-packs s o = omega arith
+packs-most = omega arith
+
+pub sides-stack : {w h : ℕ} → Sides w h → h * w ≤ 4096
+sides-stack {w} {h} s =
+    omega (arith, stack-most, mul-le-mul-right {m = h} {n = side} w (s .most-h), mul-le-mul-left {m = w} {n = side} side (s .most-w))
+
+pub on-packs : {w h x y : ℕ} → Sides w h → On w h x y → Packs x y
+on-packs s o = omega (arith, packs-most)
 
 -- A crossing of the map can be touched while another is looked around.
 pub looking-touching : {w h x y a b k : ℕ} {s stack : List ℕ} → Looking w h x y s stack k → On w h a b → Touching w a b s stack k
@@ -41,7 +47,8 @@ pub record Even (m : ℕ) (s t stack after : List ℕ) (k r : ℕ) : Type 0 wher
   pub sum : r + freeTo t m ≡ k + freeTo s m
 
 even-none : {m : ℕ} {s t stack after : List ℕ} {k r : ℕ} → t ≡ s → after ≡ stack → r ≡ k → Even m s t stack after k r
-even-none {m} e f g = record { length-s = ap length e; length-stack = ap length f; more = omega arith; sum = omega (arith, ap (λ (l : List ℕ). freeTo l m) e) }
+even-none {m} e f g =
+    record { length-s = ap length e; length-stack = ap length f; more = omega arith; sum = omega (arith, ap (λ (l : List ℕ). freeTo l m) e) }
 
 -- Writing at an open crossing.
 free-write : {w h a b : ℕ} (s : List ℕ) {t : List ℕ} (v : ℕ) → length s ≡ h * w → On w h a b → Free (at s w a b) → t ≡ set s (number w a b) v
@@ -77,7 +84,8 @@ pub even-step : {w h d n x y : ℕ} {s t stack after : List ℕ} {k r : ℕ} →
 even-step e (edge n f g i) = even-none f g i
 even-step e (beside o m n u) = even-touched e o (noted-high n) u
 
-pub even-on : {m : ℕ} {s t u stack after last : List ℕ} {k r q : ℕ} → Even m s t stack after k r → Even m t u after last r q → Even m s u stack last k q
+pub even-on : {m : ℕ} {s t u stack after last : List ℕ} {k r q : ℕ} → Even m s t stack after k r → Even m t u after last r q
+    → Even m s u stack last k q
 even-on e f =
     record {
       length-s = f .length-s ∙ e .length-s;
@@ -109,4 +117,5 @@ looked-even l p =
     let l₁ = looking-step l (p .to-east) in
     let l₂ = looking-step l₁ (p .to-south) in
     let l₃ = looking-step l₂ (p .to-west) in
-    even-on (even-step (l .size) (p .to-east)) (even-on (even-step (l₁ .size) (p .to-south)) (even-on (even-step (l₂ .size) (p .to-west)) (even-step (l₃ .size) (p .to-north))))
+    even-on (even-step (l .size) (p .to-east))
+    (even-on (even-step (l₁ .size) (p .to-south)) (even-on (even-step (l₂ .size) (p .to-west)) (even-step (l₃ .size) (p .to-north))))

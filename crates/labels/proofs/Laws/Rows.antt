@@ -1,9 +1,9 @@
 -- Settling row by row: what the loops keep. The crossings passed are settled and counted; the others are as they were.
-use mathlib.Core.Path.{_≡_, refl, sym, ap, _∙_}
+use mathlib.Core.Path.{_≡_, refl, sym, _∙_}
 use mathlib.Core.List.{List}
 use Prim.Native.Nat.{ℕ, _+_, _*_, _^_, _<_, _≤_}
 use native.Mathlib.Omega.{arith}
-use lib.ListN.{length, getD, set}
+use lib.ListN.{length}
 use Rattle.field.specs.Map.{number, at}
 use Rattle.labels.specs.declared.Labelled.{Labelled}
 use Rattle.labels.specs.Settling.{counted, worth, sumOf, total, Adding, Turned, Settling, Settled, SettlingRow, SettledRow, SettlingAll, SettledAll}

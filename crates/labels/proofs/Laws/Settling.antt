@@ -3,19 +3,18 @@
 use mathlib.Core.Path.{_≡_, refl, sym, ap, _∙_}
 use mathlib.Core.List.{List}
 use mathlib.Core.Logic.{_⊎_, inl, inr}
-use Prim.Native.Nat.{ℕ, zero, suc, _+_, _*_, _-_, _<_, _≤_}
+use Prim.Native.Nat.{ℕ, zero, suc, _+_, _-_, _<_, _≤_}
 use native.Mathlib.Omega.{arith}
-use native.Mathlib.Numerals.{add-one}
-use native.Mathlib.Decide.{decLt, ℕ-discrete}
+use native.Mathlib.Decide.{decLt}
 use lib.ListN.{length, getD, set, length-set}
 use lib.Seq.{getD-set-same, getD-set-other, set-getD}
 use Rattle.field.specs.Map.{number, at}
 use Rattle.labels.specs.declared.Labelled.{Labelled}
 use Rattle.labels.specs.Work.{Free}
 use Rattle.labels.specs.Gathering.{settled}
-use Rattle.labels.specs.Settling.{counted, rockBit, shutBit, closedBit, westBit, southBit, worth, sumOf, total, Passed, Turned}
+use Rattle.labels.specs.Settling.{counted, rockBit, shutBit, closedBit, westBit, southBit, worth, Passed, Turned}
 use Rattle.labels.proofs.Laws.Bytes.{shown-free}
-use Rattle.labels.proofs.Laws.Bits.{rock-one, rock-none, shut-one, shut-none, closed-one, closed-none, west-none, west-at, south-none, south-at}
+use Rattle.labels.proofs.Laws.Bits.{rock-one, rock-none, shut-one, shut-none, closed-one, closed-none}
 use Rattle.labels.proofs.Laws.Draining.{settled-low, settled-high}
 
 -- A byte and what is left of it.

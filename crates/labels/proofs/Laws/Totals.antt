@@ -1,8 +1,7 @@
 -- Sums of counts: how large they can get, and each of the three by itself.
-use mathlib.Core.Path.{_≡_, refl, sym, ap, _∙_}
+use mathlib.Core.Path.{_≡_, refl, ap}
 use mathlib.Core.List.{List}
-use mathlib.Core.Logic.{_⊎_, inl, inr}
-use Prim.Native.Nat.{ℕ, zero, suc, _+_, _*_, _-_, _^_, _<_, _≤_}
+use Prim.Native.Nat.{ℕ, zero, suc, _+_, _*_, _^_, _<_, _≤_}
 use native.Mathlib.Omega.{arith}
 use native.Mathlib.Numerals.{add-one}
 use lib.Dec.{eqb}
@@ -10,7 +9,7 @@ use Rattle.field.specs.Map.{at}
 use Rattle.field.specs.Labels.{sumTo}
 use Rattle.field.specs.Workings.Marks.{bit-le}
 use Rattle.labels.specs.declared.Labelled.{Labelled}
-use Rattle.labels.specs.Settling.{counted, rockBit, shutBit, closedBit, westBit, southBit, worth, sumOf, total, Adding}
+use Rattle.labels.specs.Settling.{counted, rockBit, shutBit, closedBit, worth, sumOf, total, Adding}
 
 pub total-none : (f : ℕ → Labelled) → total 0 f ≡ counted 0 0 0
 unfolding total

@@ -1,23 +1,23 @@
 -- One touch keeps what stays true while the stack is drained. The crossing (a, b) is touched with the note n, which names (x, y), closed so far.
 -- Either it notes (x, y); or it has noted it before, or is closed; or it has noted another neighbour, so that two are closed: then it is shut
 -- and put on the stack. In each case it knows of (x, y) afterwards, and need not be excused.
-use mathlib.Core.Path.{_≡_, refl, sym, ap, _∙_}
+use mathlib.Core.Path.{_≡_, _∙_}
 use mathlib.Core.List.{List}
 use mathlib.Core.Logic.{_⊎_, inl, inr, ⊎-elim}
-use Prim.Native.Nat.{ℕ, _+_, _*_, _<_, _≤_}
+use Prim.Native.Nat.{ℕ, _+_, _*_, _<_}
 use native.Mathlib.Omega.{arith}
 use native.Mathlib.Decide.{ℕ-discrete}
 use lib.ListN.{length, getD, set}
 use lib.Seq.{getD-set-same, getD-set-other}
-use Rattle.field.specs.Map.{On, number, at, Near, Apart}
+use Rattle.field.specs.Map.{On, number, at, Near}
 use Rattle.field.specs.Labels.{Closed, between}
 use Rattle.field.specs.Workings.Sheet.{number-lt}
 use Rattle.labels.specs.Work.{Shown, Free, Seen, Noted, packed, xOf, yOf, Packs, Waits}
 use Rattle.labels.specs.Steps.{Touched, noted, shut, kept}
 use Rattle.labels.proofs.Laws.Bytes.{shown-free, at-same, Written, here, elsewhere, written}
-use Rattle.labels.proofs.Laws.Notes.{noted-near, noted-high, noted-apart, noted-same}
+use Rattle.labels.proofs.Laws.Notes.{noted-near, noted-high, noted-apart}
 use Rattle.labels.proofs.Laws.Stacks.{x-packed, y-packed, waits-push, waits-top}
-use Rattle.labels.proofs.Laws.Working.{Excuse, Named, Sheet, Stacked, Knows, waits, has-noted, excused, Working, seen-keeps, seen-back, sheet-write}
+use Rattle.labels.proofs.Laws.Working.{Excuse, Sheet, Stacked, Knows, waits, has-noted, excused, Working, seen-keeps, seen-back, sheet-write}
 
 -- (p, q) is (a, b) and (c, d) is (x, y).
 abbrev Pair : ℕ → ℕ → ℕ → ℕ → ℕ → ℕ → ℕ → ℕ → Type 0
@@ -37,7 +37,6 @@ knows-on f g e (excused z) = e z
 
 module _ (R : ℕ → ℕ → Type 0) (w h a b n x y : ℕ) (s stack : List ℕ) (k : ℕ) (E F : Excuse) (o : On w h a b) (note : Noted n a b x y)
     (seen : Seen w h s x y) (settles : Settles w h E F a b x y) (W : Working R w h s stack k E) where
-
   size : length s ≡ h * w
   size = W .sheet .size
 

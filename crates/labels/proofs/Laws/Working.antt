@@ -1,20 +1,16 @@
 -- What stays true while the stack is drained. Everything closed so far is closed. And an open crossing beside a closed one knows of it: it has
 -- noted that neighbour, or the neighbour still waits on the stack to be looked around. While a crossing is being looked around, some of its
 -- neighbours do not know of it yet, and are excused. Touching one keeps all this, and settles one excuse.
-use mathlib.Core.Path.{_≡_, refl, sym, ap, _∙_}
+use mathlib.Core.Path.{_≡_, refl, sym, _∙_}
 use mathlib.Core.List.{List}
 use mathlib.Core.Logic.{_⊎_, inl, inr}
-use Prim.Native.Nat.{ℕ, _+_, _*_, _<_, _≤_}
+use Prim.Native.Nat.{ℕ, _*_, _<_}
 use native.Mathlib.Omega.{arith}
 use lib.ListN.{length, getD, set, length-set}
-use lib.Seq.{getD-set-same, getD-set-other}
-use Rattle.field.specs.Map.{On, number, at, Near, Apart}
-use Rattle.field.specs.Labels.{Closed, rock, between, RockOn}
-use Rattle.labels.specs.Work.{Shown, Free, Seen, Noted, packed, xOf, yOf, Packs, Waits}
-use Rattle.labels.specs.Steps.{Touched, noted, shut, kept}
+use Rattle.field.specs.Map.{On, number, at, Near}
+use Rattle.field.specs.Labels.{Closed, RockOn}
+use Rattle.labels.specs.Work.{Shown, Free, Seen, Noted, xOf, yOf, Waits}
 use Rattle.labels.proofs.Laws.Bytes.{shown-free, at-same, Written, here, elsewhere, written}
-use Rattle.labels.proofs.Laws.Notes.{noted-near, noted-high, noted-apart, noted-same}
-use Rattle.labels.proofs.Laws.Stacks.{waits-push, waits-top}
 
 -- The closed neighbour that the note n of (x, y) names.
 pub record Named (w h : ℕ) (s : List ℕ) (n x y : ℕ) : Type 0 where

@@ -1,4 +1,4 @@
--- `labels::close` meets its contract: the stack has room for every crossing of the map.
+-- `closing::close` meets its contract: the stack has room for every crossing of the map.
 use native.Mathlib.Omega.{arith}
 use borrow.Author.Needs.{needs}
 use Rattle.labels.proofs.Laws.Rooms.{sides-stack}

@@ -1,5 +1,5 @@
--- `labels::drain` meets its contract. The loop's invariant is `Drains`; what is left to do falls at each turn.
-use mathlib.Core.Path.{_≡_, refl, _∙_}
+-- `closing::drain` meets its contract. The loop's invariant is `Drains`; what is left to do falls at each turn.
+use mathlib.Core.Path.{_≡_, refl}
 use Prim.Native.Nat.{_+_, _-_}
 use native.Mathlib.Omega.{arith}
 use borrow.Author.Needs.{needs}
@@ -45,13 +45,14 @@ look-around-requires c κs = drains-looking (c .before .before .before .before .
 
 loop-less : tie.Need-loop-less Inv-loop μ-loop
 loop-less c =
-    drains-less (c .before .before .before .before .before .before .before .before .before .loop .inv .0) (height (c .before .before .before .before .before))
-    (c .before .before .before .before .look-around .ensures)
+    let l = c .before .before .before .before .before .before .before .before .before .loop in
+    drains-less (l .inv .0) (height (c .before .before .before .before .before)) (c .before .before .before .before .look-around .ensures)
 
 loop-again : tie.Need-loop-again Inv-loop μ-loop
 loop-again c =
-    (drains-next (c .before .before .before .before .before .before .before .before .before .loop .inv .0) (height (c .before .before .before .before .before))
-    (c .before .before .before .before .look-around .ensures), omega arith, omega arith)
+    let l = c .before .before .before .before .before .before .before .before .before .loop in
+    let d = drains-next (l .inv .0) (height (c .before .before .before .before .before)) (c .before .before .before .before .look-around .ensures) in
+    (d, omega arith, omega arith)
 
 same-length : tie.Need-same-length Inv-loop μ-loop
 same-length c = search needs

@@ -1,8 +1,7 @@
--- `labels::gather` meets its contract. The loop's invariant: the rows before y are gathered.
+-- `closing::gather` meets its contract. The loop's invariant: the rows before y are gathered.
 use mathlib.Core.Path.{_≡_, refl, ap}
-use Prim.Native.Nat.{ℕ, suc, _+_, _*_, _-_, _≤_}
+use Prim.Native.Nat.{ℕ, _*_, _-_, _≤_}
 use native.Mathlib.Omega.{arith}
-use borrow.Author.Needs.{needs}
 use lib.ListN.{length}
 use Rattle.labels.specs.Gathering.{Gathered}
 use Rattle.labels.proofs.Laws.Gathering.{gathered-none, gathered-at, gathering-row}

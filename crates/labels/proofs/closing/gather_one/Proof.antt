@@ -1,4 +1,4 @@
--- `labels::gather_one` meets its contract: a byte is 0 or 1.
+-- `closing::gather_one` meets its contract: a byte is 0 or 1.
 use native.Mathlib.Omega.{arith}
 use Rattle.field.specs.Map.{number}
 use Rattle.labels.proofs.Laws.Gathering.{gathered-open, gathered-rock}

@@ -1,8 +1,7 @@
--- `labels::gather_row` meets its contract. The loop's invariant: the crossings before (x, y) are gathered.
-use mathlib.Core.Path.{_≡_, refl, _∙_}
+-- `closing::gather_row` meets its contract. The loop's invariant: the crossings before (x, y) are gathered.
+use mathlib.Core.Path.{_≡_, refl}
 use Prim.Native.Nat.{_+_, _*_, _-_, _≤_}
 use native.Mathlib.Omega.{arith}
-use borrow.Author.Needs.{needs}
 use lib.ListN.{length}
 use Rattle.labels.specs.Gathering.{Gathered}
 use Rattle.labels.proofs.Laws.Gathering.{gathered-at}

@@ -1,12 +1,11 @@
--- `labels::touch` meets its contract: each way through it is one case of `Touched`. Where it shuts the crossing, the byte was a note, so that the
+-- `closing::touch` meets its contract: each way through it is one case of `Touched`. Where it shuts the crossing, the byte was a note, so that the
 -- crossing was open and the stack has room.
-use mathlib.Core.Path.{refl, ap}
-use mathlib.Core.List.{List}
+use mathlib.Core.Path.{refl}
 use mathlib.Core.Logic.{inl, inr}
-use Prim.Native.Nat.{ℕ, _<_}
+use Prim.Native.Nat.{_<_}
 use native.Mathlib.Omega.{arith}
 use borrow.Author.Needs.{needs}
-use lib.ListN.{length, set}
+use lib.ListN.{length}
 use Rattle.labels.specs.Steps.{noted, kept, shut}
 use Rattle.labels.proofs.closing.touch.Statement.{statement}
 use Rattle.labels.proofs.closing.touch.Tie as tie

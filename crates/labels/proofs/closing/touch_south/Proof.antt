@@ -1,10 +1,10 @@
--- `labels::touch_south` meets its contract: it is one look to the south.
+-- `closing::touch_south` meets its contract: it is one look to the south.
 use mathlib.Core.Path.{refl}
-use Prim.Native.Nat.{_+_, _-_}
+use Prim.Native.Nat.{_-_}
 use native.Mathlib.Omega.{arith}
 use borrow.Author.Needs.{needs}
 use Rattle.field.specs.Map.{On}
-use Rattle.labels.specs.Work.{Noted, note-south, note-north}
+use Rattle.labels.specs.Work.{note-south, note-north}
 use Rattle.labels.specs.Steps.{edge, beside}
 use Rattle.labels.proofs.Laws.Notes.{noted-on}
 use Rattle.labels.proofs.Laws.Rooms.{looking-touching}

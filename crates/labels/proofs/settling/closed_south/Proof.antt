@@ -1,4 +1,4 @@
--- `labels::closed_south` meets its contract: no note is left at the south neighbour.
+-- `settling::closed_south` meets its contract: no note is left at the south neighbour.
 use mathlib.Core.Path.{sym}
 use native.Mathlib.Omega.{arith}
 use Rattle.labels.proofs.Laws.Bits.{south-none, south-below, south-open, south-closed}

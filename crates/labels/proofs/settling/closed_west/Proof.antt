@@ -1,4 +1,4 @@
--- `labels::closed_west` meets its contract: no note is left at the west neighbour.
+-- `settling::closed_west` meets its contract: no note is left at the west neighbour.
 use mathlib.Core.Path.{sym}
 use Rattle.labels.proofs.Laws.Bits.{west-none, west-open, west-closed}
 use borrow.Author.Needs.{needs}

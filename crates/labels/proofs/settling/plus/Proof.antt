@@ -1,4 +1,4 @@
--- `labels::plus` meets its contract: it adds count by count.
+-- `settling::plus` meets its contract: it adds count by count.
 use mathlib.Core.Path.{refl}
 use Rattle.labels.specs.Settling.{sumOf}
 use borrow.Author.Needs.{needs}

@@ -1,4 +1,4 @@
--- `labels::settle` meets its contract: each way through it is one kind of byte.
+-- `settling::settle` meets its contract: each way through it is one kind of byte.
 use mathlib.Core.Path.{_∙_}
 use mathlib.Core.Logic.{inl, inr}
 use native.Mathlib.Omega.{arith}
@@ -35,7 +35,10 @@ same-length c = search needs
 returns-2 : tie.Need-returns-2
 returns-2 c =
     let a = c .before .before .before .before .before .args in
-    record { turned = set-blank (a .s .now) (number (a .w) (a .x) (a .y)) (c .before .if2 .taken); counts = c .counts2 .ensures ∙ worth-open _ _ _ _ (inr (c .before .if2 .taken)) }
+    record {
+      turned = set-blank (a .s .now) (number (a .w) (a .x) (a .y)) (c .before .if2 .taken);
+      counts = c .counts2 .ensures ∙ worth-open _ _ _ _ (inr (c .before .if2 .taken));
+    }
 
 corner-requires : tie.Need-corner-requires
 corner-requires c κs = search needs
@@ -47,7 +50,11 @@ same-length-2 : tie.Need-same-length-2
 same-length-2 c = search needs
 
 returns-3 : tie.Need-returns-3
-returns-3 c = record { turned = set-settled _ _ (omega arith); counts = c .counts3 .ensures ∙ worth-rock _ _ _ _ _ (c .before .before .corner .ensures) (c .before .if3 .taken) }
+returns-3 c =
+    record {
+      turned = set-settled _ _ (omega arith);
+      counts = c .counts3 .ensures ∙ worth-rock _ _ _ _ _ (c .before .before .corner .ensures) (c .before .if3 .taken);
+    }
 
 counts-requires-4 : tie.Need-counts-requires-4
 counts-requires-4 c κs = search needs
@@ -56,7 +63,11 @@ same-length-3 : tie.Need-same-length-3
 same-length-3 c = search needs
 
 returns-4 : tie.Need-returns-4
-returns-4 c = record { turned = set-settled _ _ (omega arith); counts = c .counts4 .ensures ∙ worth-shut _ _ _ _ _ (c .before .before .corner .ensures) (omega arith) }
+returns-4 c =
+    record {
+      turned = set-settled _ _ (omega arith);
+      counts = c .counts4 .ensures ∙ worth-shut _ _ _ _ _ (c .before .before .corner .ensures) (omega arith);
+    }
 
 pub settle-spec : {M : Type 1} → statement M
 settle-spec =

@@ -1,4 +1,4 @@
--- `labels::settle_row` meets its contract. The loop's invariant: the row is settled up to x.
+-- `settling::settle_row` meets its contract. The loop's invariant: the row is settled up to x.
 use Prim.Native.Nat.{_-_}
 use native.Mathlib.Omega.{arith}
 use borrow.Author.Needs.{needs}
@@ -34,8 +34,9 @@ loop-less c = omega arith
 
 loop-again : tie.Need-loop-again Inv-loop μ-loop
 loop-again c =
-    row-next (c .before .before .before .before .before .before .before .before .before .pre) (c .before .before .before .before .before .before .loop .inv)
-    (c .before .before .before .settle .ensures) (c .before .before .before .before .before .loop-test .taken) (c .plus .ensures)
+    let l = c .before .before .before .before .before .before .loop in
+    row-next (c .before .before .before .before .before .before .before .before .before .pre) (l .inv) (c .before .before .before .settle .ensures)
+    (c .before .before .before .before .before .loop-test .taken) (c .plus .ensures)
 
 same-length : tie.Need-same-length Inv-loop μ-loop
 same-length c = c .before .loop .inv .turned .size
