@@ -1,0 +1,2 @@
+-- What the code for clear distances and assurance promises.
+pub mod Promise

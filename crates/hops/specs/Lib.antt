@@ -1,0 +1,2 @@
+-- What the hop code promises.
+pub mod Promise
