@@ -1,3 +1,5 @@
 -- What the proofs of several functions share.
 mod Ways
 mod Looking
+mod Ahead
+mod Filling

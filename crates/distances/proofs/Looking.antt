@@ -20,6 +20,15 @@ module _ {s : List ℕ} {w h : ℕ} {t : Way} {x y : ℕ} where
   pub bare-none : Bare s w h t x y 0
   bare-none = record { free = λ i a b l. absurd (omega arith) }
 
+  -- An open crossing with nothing marked on the hops after the first.
+  pub bare-first : {n : ℕ} → at s w x y ≡ 0 → ((k a b : ℕ) → 0 < k → k < n → Along t k x y a b → ¬ Marked s w h a b) → Bare s w h t x y n
+  bare-first {n} z f = record { free = λ k a b p l. go k a b p l (decLt 0 k) }
+    where
+      go : (k a b : ℕ) → k < n → Along t k x y a b → Dec (0 < k) → ¬ Marked s w h a b
+      go k a b p l (yes q) = f k a b q p l
+      go k a b p l (no q) =
+          λ m. let o = moved (Marked s w h) (along-one t k 0 x y a b x y (omega arith) l (along-start t 0 x y refl)) m in omega (arith, o .mark)
+
   -- The next hop leads to (a, b), where v stands.
   module _ {k v : ℕ} (f : Bare s w h t x y k) (a b : ℕ) (l : Along t k x y a b) (e : v ≡ at s w a b) where
     -- It is no mark.
@@ -36,12 +45,12 @@ module _ {s : List ℕ} {w h : ℕ} {t : Way} {x y : ℕ} where
     bare-met o n = go (record { on = o; mark = omega arith }) (decLt 0 k)
       where
         go : Marked s w h a b → Dec (0 < k) → Clear (Marked s w h) t x y k
-        go m (yes p) = nearest a b (f .free 0 x y p (along-start t x y)) l m (f .free)
-        go m (no p) = at-closed (moved (Marked s w h) (along-one t k 0 x y a b x y (omega arith) l (along-start t x y)) m) (omega arith)
+        go m (yes p) = nearest a b (f .free 0 x y p (along-start t 0 x y refl)) l m (f .free)
+        go m (no p) = at-closed (moved (Marked s w h) (along-one t k 0 x y a b x y (omega arith) l (along-start t 0 x y refl)) m) (omega arith)
 
   -- The next hop and all after it lead off the map: there is no distance.
   pub bare-past : {k : ℕ} → Bare s w h t x y k → ((i a b : ℕ) → k ≤ i → Along t i x y a b → ¬ On w h a b) → Clear (Marked s w h) t x y no-distance
-  bare-past {k} f past = none (all 0 x y (along-start t x y)) all refl
+  bare-past {k} f past = none (all 0 x y (along-start t 0 x y refl)) all refl
     where
       all : (i a b : ℕ) → Along t i x y a b → ¬ Marked s w h a b
       all i a b l = go (decLt i k)

@@ -1,6 +1,6 @@
 -- Hops one way: how many lead where. Only these laws look at the four ways one by one; what rests on them holds over any way.
 use mathlib.Core.Path.{_≡_, subst₂}
-use Prim.Native.Nat.{ℕ}
+use Prim.Native.Nat.{ℕ, _+_, _-_, _<_}
 use native.Mathlib.Omega.{arith}
 use Rattle.field.specs.Distances.{Way, eastward, southward, westward, northward, Along}
 
@@ -12,11 +12,25 @@ along-one westward k j x y a b c d e l m = omega arith
 along-one northward k j x y a b c d e l m = omega arith
 
 -- No hop at all leads to the crossing itself.
-pub along-start : (t : Way) (x y : ℕ) → Along t 0 x y x y
-along-start eastward x y = omega arith
-along-start southward x y = omega arith
-along-start westward x y = omega arith
-along-start northward x y = omega arith
+pub along-start : (t : Way) (k x y : ℕ) → k ≡ 0 → Along t k x y x y
+along-start eastward k x y e = omega arith
+along-start southward k x y e = omega arith
+along-start westward k x y e = omega arith
+along-start northward k x y e = omega arith
+
+-- One hop to (a, b) and k more from there are one hop more.
+pub along-join : (t : Way) (k x y a b c d : ℕ) → Along t 1 x y a b → Along t k a b c d → Along t (k + 1) x y c d
+along-join eastward k x y a b c d l m = omega arith
+along-join southward k x y a b c d l m = omega arith
+along-join westward k x y a b c d l m = omega arith
+along-join northward k x y a b c d l m = omega arith
+
+-- Of k hops the first leads to (a, b), and the others from there.
+pub along-rest : (t : Way) (k x y a b c d : ℕ) → 0 < k → Along t 1 x y a b → Along t k x y c d → Along t (k - 1) a b c d
+along-rest eastward k x y a b c d p l m = omega arith
+along-rest southward k x y a b c d p l m = omega arith
+along-rest westward k x y a b c d p l m = omega arith
+along-rest northward k x y a b c d p l m = omega arith
 
 -- What holds of a crossing holds of it under other names for its coordinates.
 pub moved : (C : ℕ → ℕ → Type 0) {a b c d : ℕ} → (a ≡ c) × (b ≡ d) → C a b → C c d

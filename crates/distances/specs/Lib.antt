@@ -1,2 +1,3 @@
 -- What the code for clear distances and assurance promises.
 pub mod Promise
+pub mod Running

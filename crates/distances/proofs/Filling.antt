@@ -1,0 +1,1 @@
+-- Filling a sheet with distances, crossing by crossing.
