@@ -1,5 +1,5 @@
 -- What document 01 defines. The eight modules first named are meanings: relations in the document's words, which a reader must believe.
--- Workings compute, and each agrees with its meaning. The table holds the settled examples.
+-- Workings compute, and each agrees with its meaning; Geometry has the theorems that need no code; the table holds the settled examples.
 pub mod Map
 pub mod Refusals
 pub mod Labels
@@ -9,4 +9,6 @@ pub mod Hops
 pub mod Drives
 pub mod Chooser
 pub mod Workings
+pub mod Geometry
 pub mod Table
+pub mod Settled

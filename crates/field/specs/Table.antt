@@ -13,6 +13,7 @@ use Rattle.field.specs.Groups.{Linked, Groups}
 use Rattle.field.specs.Distances.{Way, Clear, Distances, Assured}
 use Rattle.field.specs.Drives.{ShortestDrive, HasDrive, InRegion}
 use Rattle.field.specs.Chooser.{Driven}
+use Rattle.field.specs.Geometry.Shapes.{Within}
 use Rattle.field.specs.Workings.Sheet.{bit, sheet}
 use Rattle.field.specs.Workings.Stamping.{rockOf}
 
@@ -69,13 +70,6 @@ pub data Row : Type 0 where
   -- the chooser's drive from s to d in state z, and the state after it
   driven : (rocks : List Place) (sx sy dx dy z : ℕ) (route : List ℕ) (z′ : ℕ) → Row
 
--- (a, b) lies in x₀ to x₁ by y₀ to y₁.
-pub record Inside (x₀ x₁ y₀ y₁ a b : ℕ) : Type 0 where
-  pub from-x : x₀ ≤ a
-  pub to-x : a ≤ x₁
-  pub from-y : y₀ ≤ b
-  pub to-y : b ≤ y₁
-
 -- What a row claims, in the words of the meanings.
 abbrev pub Holds : Row → Type 0
 Holds (labels rocks shut groups opens) =
@@ -84,7 +78,7 @@ Holds (labels rocks shut groups opens) =
     × Count wide high (Shut (RocksOn rocks) wide high) (length shut)
     × Groups wide high (ClosedBy rocks) groups
     × Count wide high (Open wide high (ClosedBy rocks)) opens
-Holds (group rocks x₀ x₁ y₀ y₁) = (a b : ℕ) → Linked (ClosedBy rocks) x₀ y₀ a b ↔ Inside x₀ x₁ y₀ y₁ a b
+Holds (group rocks x₀ x₁ y₀ y₁) = (a b : ℕ) → Linked (ClosedBy rocks) x₀ y₀ a b ↔ Within x₀ x₁ y₀ y₁ a b
 Holds (no-distances rocks) = (t : Way) (x y : ℕ) → On wide high x y → Clear (ClosedBy rocks) t x y no-distance
 Holds (distances rocks x y four) = Distances (ClosedBy rocks) x y four
 Holds (assured rocks hx hy x y) = Assured wide high (ClosedBy rocks) hx hy x y
@@ -95,7 +89,7 @@ Holds (drive rocks sx sy dx dy n) =
     (route : List ℕ) × ShortestDrive wide high (ClosedBy rocks) sx sy dx dy route × (length route ≡ n + 1)
 Holds (region rocks sx sy dx dy n) = Count wide high (InRegion wide high (ClosedBy rocks) sx sy dx dy) n
 Holds (outside rocks sx sy dx dy x₀ x₁ y₀ y₁) =
-    (a b : ℕ) → Inside x₀ x₁ y₀ y₁ a b → ¬ InRegion wide high (ClosedBy rocks) sx sy dx dy a b
+    (a b : ℕ) → Within x₀ x₁ y₀ y₁ a b → ¬ InRegion wide high (ClosedBy rocks) sx sy dx dy a b
 Holds (driven rocks sx sy dx dy z route z′) = Driven wide high (ClosedBy rocks) sx sy dx dy sx sy z route z′
 
 abbrev pub place : ℕ → ℕ → Place

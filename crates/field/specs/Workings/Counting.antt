@@ -1,11 +1,13 @@
 -- Working: how many crossings a sheet marks; and that this is how many there are of what it draws, however that is decided.
 use mathlib.Core.Path.{_≡_, refl, sym, _∙_}
+use mathlib.Core.Bool.{Bool, true, false, false≢true}
 use mathlib.Core.List.{List}
 use mathlib.Core.Logic.{_↔_}
 use Prim.Native.Nat.{ℕ, zero, suc, _+_, _<_}
 use native.Mathlib.Omega.{arith}
+use Rattle.field.specs.Map.{On}
 use Rattle.field.specs.Labels.{sumTo, one, count, Count}
-use Rattle.field.specs.Workings.Sheet.{Draws, lit}
+use Rattle.field.specs.Workings.Sheet.{Draws, bit, lit}
 use Rattle.field.specs.Workings.Marks.{drawn-dec, drawn-lit, undrawn-lit}
 
 -- The sum of f over the map.
@@ -34,18 +36,38 @@ module _ (w h : ℕ) (P : ℕ → ℕ → Type 0) (s : List ℕ) (D : Draws w h 
       whole : (d : (x y : ℕ) → Dec (P x y)) → count w h P d ≡ tally w h (lit s w h)
       whole d = count-tally w h P d (lit s w h) (λ x y p q. one-lit x y (d x y))
 
--- Two sets that hold each other have the same number of crossings, and a set has one number.
-one-same : {P Q : Type 0} → (P → Q) → (Q → P) → (d : Dec P) (e : Dec Q) → one d ≡ one e
-one-same f g (yes p) (yes q) = refl
-one-same f g (yes p) (no n) = absurd (n (f p))
-one-same f g (no n) (yes q) = absurd (n (g q))
-one-same f g (no n) (no m) = refl
+-- How many there are does not depend on how the set is decided, nor on how it is said.
+pub one-same : {P Q : Type 0} → P ↔ Q → (d : Dec P) (e : Dec Q) → one d ≡ one e
+one-same s (yes p) (yes q) = refl
+one-same s (yes p) (no n) = absurd (n (s .0 p))
+one-same s (no n) (yes q) = absurd (n (s .1 q))
+one-same s (no n) (no m) = refl
 
-pub count-same : (w h : ℕ) (P Q : ℕ → ℕ → Type 0) → ((x y : ℕ) → P x y → Q x y) → ((x y : ℕ) → Q x y → P x y)
-    → (n m : ℕ) → Count w h P n → Count w h Q m → n ≡ m
-unfolding count
-count-same w h P Q f g n m c k =
-    c .1 ∙ sum-same h _ _ (λ y q. sum-same w _ _ (λ x p. one-same (f x y) (g x y) (c .0 x y) (k .0 x y))) ∙ sym (k .1)
+-- P and Q have the same crossings of the map.
+abbrev pub Same : ℕ → ℕ → (ℕ → ℕ → Type 0) → (ℕ → ℕ → Type 0) → Type 0
+Same w h P Q = (x y : ℕ) → On w h x y → P x y ↔ Q x y
 
-pub count-one : (w h : ℕ) (P : ℕ → ℕ → Type 0) (n m : ℕ) → Count w h P n → Count w h P m → n ≡ m
-count-one w h P n m c k = count-same w h P P (λ x y p. p) (λ x y p. p) n m c k
+module _ {w h : ℕ} {P Q : ℕ → ℕ → Type 0} (s : Same w h P Q) where
+  pub count-decided : (d : (x y : ℕ) → Dec (P x y)) (e : (x y : ℕ) → Dec (Q x y)) → count w h P d ≡ count w h Q e
+  unfolding count
+  count-decided d e = sum-same h _ _ (λ y l. sum-same w _ _ (λ x k. one-same (s x y (record { in-x = k; in-y = l })) (d x y) (e x y)))
+
+  pub count-same : {n m : ℕ} → Count w h P n → Count w h Q m → n ≡ m
+  count-same c k = c .1 ∙ count-decided (c .0) (k .0) ∙ sym (k .1)
+
+  pub count-moved : {n : ℕ} → ((x y : ℕ) → Dec (Q x y)) → Count w h P n → Count w h Q n
+  count-moved e c = (e, c .1 ∙ count-decided (c .0) e)
+
+pub count-one : (w h : ℕ) {P : ℕ → ℕ → Type 0} {n m : ℕ} → Count w h P n → Count w h P m → n ≡ m
+count-one w h = count-same {w = w} {h = h} (λ x y o. (λ p. p, λ p. p))
+
+-- What a test tells of each crossing of the map is counted by the test.
+pub count-tests : (w h : ℕ) (P : ℕ → ℕ → Type 0) (f : ℕ → ℕ → Bool) → ((x y : ℕ) → On w h x y → (P x y ↔ f x y ≡ true))
+    → ((x y : ℕ) → Dec (P x y)) → Count w h P (tally w h (λ x y. bit (f x y)))
+count-tests w h P f t d = (d, sym (count-tally w h P d (λ x y. bit (f x y)) (λ x y p q. each (d x y) (t x y (record { in-x = p; in-y = q })))))
+  where
+    each : {Q : Type 0} {b : Bool} (e : Dec Q) → (Q ↔ b ≡ true) → one e ≡ bit b
+    each {b = true} (yes q) k = refl
+    each {b = false} (yes q) k = absurd (false≢true (k .0 q))
+    each {b = true} (no n) k = absurd (n (k .1 refl))
+    each {b = false} (no n) k = refl
