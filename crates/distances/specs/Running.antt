@@ -21,10 +21,18 @@ pub record Ready (w h : ℕ) (s u : List ℕ) : Type 0 where
   pub fits : Fits w h s
   pub room : length u ≡ h * w
 
--- The same with a place of the map.
+-- The same with a place of the map, with a row, and with a column.
 pub record ReadyAt (w h : ℕ) (s u : List ℕ) (x y : ℕ) : Type 0 where
   pub ready : Ready w h s u
   pub on : On w h x y
+
+pub record ReadyRow (w h : ℕ) (s u : List ℕ) (y : ℕ) : Type 0 where
+  pub ready : Ready w h s u
+  pub in-y : y < h
+
+pub record ReadyColumn (w h : ℕ) (s u : List ℕ) (x : ℕ) : Type 0 where
+  pub ready : Ready w h s u
+  pub in-x : x < w
 
 -- The number r of (x, y) is made of the one before it, and is all that is written.
 pub record Put (w x y last : ℕ) (s u v : List ℕ) (r : ℕ) : Type 0 where

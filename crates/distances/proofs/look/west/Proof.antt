@@ -1,4 +1,4 @@
--- `look_west` meets its contract. The invariant: nothing is marked on the first k hops.
+-- `look::west` meets its contract. The invariant: nothing is marked on the first k hops.
 use mathlib.Core.Path.{refl}
 use Prim.Native.Nat.{_+_, _-_}
 use native.Mathlib.Omega.{arith}
@@ -6,8 +6,8 @@ use borrow.Author.Needs.{needs}
 use Rattle.field.specs.Map.{side, no-distance}
 use Rattle.field.specs.Distances.{westward}
 use Rattle.distances.proofs.Looking.{Bare, bare-none, bare-more, bare-met, bare-past}
-use Rattle.distances.proofs.look_west.Statement.{statement}
-use Rattle.distances.proofs.look_west.Tie as tie
+use Rattle.distances.proofs.look.west.Statement.{statement}
+use Rattle.distances.proofs.look.west.Tie as tie
 
 abbrev Inv-loop : tie.InvT-loop
 Inv-loop s w h x y k₀ k = Bare s w h westward x y k
@@ -41,8 +41,8 @@ returns-2 : tie.Need-returns-2 Inv-loop μ-loop
 unfolding no-distance
 returns-2 c = bare-past (c .before .loop .inv) (λ i a b l m o. omega arith)
 
-pub look-west-spec : {M : Type 1} → statement M
-look-west-spec =
+pub west-spec : {M : Type 1} → statement M
+west-spec =
     tie.close
     (tie.spec
     Inv-loop

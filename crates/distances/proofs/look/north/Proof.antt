@@ -1,4 +1,4 @@
--- `look_north` meets its contract. The invariant: nothing is marked on the first k hops, which stay on the map.
+-- `look::north` meets its contract. The invariant: nothing is marked on the first k hops, which stay on the map.
 use mathlib.Core.Path.{refl}
 use Prim.Native.Nat.{_+_, _-_, _≤_}
 use native.Mathlib.Omega.{arith}
@@ -6,8 +6,8 @@ use borrow.Author.Needs.{needs}
 use Rattle.field.specs.Map.{side, no-distance}
 use Rattle.field.specs.Distances.{northward}
 use Rattle.distances.proofs.Looking.{Bare, bare-none, bare-more, bare-met, bare-past}
-use Rattle.distances.proofs.look_north.Statement.{statement}
-use Rattle.distances.proofs.look_north.Tie as tie
+use Rattle.distances.proofs.look.north.Statement.{statement}
+use Rattle.distances.proofs.look.north.Tie as tie
 
 abbrev Inv-loop : tie.InvT-loop
 Inv-loop s w h x y k₀ k = (y + k ≤ h) × Bare s w h northward x y k
@@ -47,8 +47,8 @@ returns-2 : tie.Need-returns-2 Inv-loop μ-loop
 unfolding no-distance
 returns-2 c = bare-past (c .before .loop .inv .1) (λ i a b l m o. omega arith)
 
-pub look-north-spec : {M : Type 1} → statement M
-look-north-spec =
+pub north-spec : {M : Type 1} → statement M
+north-spec =
     tie.close
     (tie.spec
     Inv-loop

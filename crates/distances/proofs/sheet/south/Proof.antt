@@ -1,0 +1,50 @@
+-- `sheet::south` meets its contract. The invariant: the columns passed have their distances.
+use Prim.Native.Nat.{_-_, _<_, _≤_}
+use native.Mathlib.Omega.{arith}
+use Rattle.field.specs.Distances.{southward}
+use Rattle.distances.specs.Running.{Gains}
+use Rattle.distances.proofs.Filling.{gains-ready, gains-none, gains-column, gains-sheet}
+use Rattle.distances.proofs.sheet.south.Statement.{statement}
+use Rattle.distances.proofs.sheet.south.Tie as tie
+
+abbrev Inv-loop : tie.InvT-loop
+Inv-loop s w h out₀ x₀ out x = (x ≤ w) × Gains w h s southward (λ a b. a < x) out₀ out
+
+abbrev μ-loop : tie.MeasureT-loop
+μ-loop s w h out₀ x₀ out x = w - x
+
+loop-holds : tie.Need-loop-holds Inv-loop μ-loop
+loop-holds c = (omega arith, gains-none (λ a b o d. omega arith))
+
+south-requires : tie.Need-south-requires Inv-loop μ-loop
+south-requires c κs =
+    record { ready = gains-ready (c .before .before .before .before .before .pre) (c .before .before .loop .inv .1); in-x = omega arith }
+
+add-x : tie.Need-add-x Inv-loop μ-loop
+add-x c = omega arith
+
+loop-less : tie.Need-loop-less Inv-loop μ-loop
+loop-less c = omega arith
+
+loop-again : tie.Need-loop-again Inv-loop μ-loop
+loop-again c = (omega arith, gains-column (c .before .before .before .before .before .loop .inv .1) (c .before .before .south .ensures))
+
+same-length : tie.Need-same-length Inv-loop μ-loop
+same-length c = c .before .loop .inv .1 .size
+
+returns : tie.Need-returns Inv-loop μ-loop
+returns c = gains-sheet (c .before .before .before .before .pre) (c .before .loop .inv .1) (λ a b o. omega arith)
+
+pub south-spec : {M : Type 1} → statement M
+south-spec =
+    tie.close
+    (tie.spec
+    Inv-loop
+    μ-loop
+    loop-holds
+    south-requires
+    add-x
+    loop-less
+    loop-again
+    same-length
+    returns)
