@@ -3,3 +3,4 @@ mod Ways
 mod Looking
 mod Ahead
 mod Filling
+mod Assuring

@@ -6,11 +6,10 @@ mod sheet; // sheet.rt: the distances of the map
 ghost use mathlib.Core.Path.{_≡_};
 ghost use mathlib.Core.Bool.{true};
 ghost use mathlib.Core.Logic.{_↔_};
-ghost use Prim.Native.Nat.{ℕ, _+_, _*_, _<_, _≤_};
-ghost use lib.ListN.{length};
 ghost use Rattle.field.specs.Map.{at};
 ghost use Rattle.field.specs.Distances.{Distances, Assured};
 ghost use Rattle.field.specs.Workings.Sheet.{Marked};
+ghost use Rattle.field.specs.Workings.Looking.{enoughOf, axisOf};
 ghost use Rattle.distances.specs.Promise.{Asked, AskedHome, Lent, Measured};
 
 // What stands for a distance where there is none.
@@ -29,7 +28,12 @@ pub fn distances(s: &[u8], w: usize, h: usize, x: usize, y: usize) -> [u8; 4]
     requires { ⌜ Asked w h (now s) x y ⌝ }
     ensures { λ r. ⌜ Distances (Marked (now (s .entry)) w h) x y r ⌝ }
 {
-    [look::east(s, w, h, x, y), look::south(s, w, h, x, y), look::west(s, w, h, x, y), look::north(s, w, h, x, y)]
+    [
+        look::east(s, w, h, x, y),
+        look::south(s, w, h, x, y),
+        look::west(s, w, h, x, y),
+        look::north(s, w, h, x, y),
+    ]
 }
 
 // The distances of the whole map, one sheet for each way. Each number is made of its neighbour's: no crossing is looked at twice for one way.
@@ -51,10 +55,43 @@ pub fn measure(
     sheet::north(s, w, h, north);
 }
 
+// Whether home's distance that way leaves room for the offset: it is none, or the offset is less. No other function compares the two.
+fn enough(offset: usize, n: u8) -> bool
+    ensures { λ r. ⌜ r ≡ enoughOf offset n ⌝ }
+{
+    if n == NONE {
+        return true;
+    }
+    offset < n as usize
+}
+
+// Whether one axis assures the place at p of home at m, with home's distances upwards and downwards.
+fn axis(up: u8, down: u8, m: usize, p: usize) -> bool
+    ensures { λ r. ⌜ r ≡ axisOf up down m p ⌝ }
+{
+    if m < p {
+        return enough(p - m, up);
+    }
+    if p < m {
+        return enough(m - p, down);
+    }
+    true
+}
+
 // Whether home (hx, hy) is assured for (x, y).
 pub fn assured(s: &[u8], w: usize, h: usize, hx: usize, hy: usize, x: usize, y: usize) -> bool
     requires { ⌜ AskedHome w h (now s) hx hy x y ⌝ }
     ensures { λ r. ⌜ ((r ≡ true) ↔ Assured w h (Marked (now (s .entry)) w h) hx hy x y) ⌝ }
 {
+    if mark(s, w, h, hx, hy) != 0 {
+        return false;
+    }
+    if mark(s, w, h, x, y) != 0 {
+        return false;
+    }
+    let d = distances(s, w, h, hx, hy);
+    if axis(d[0], d[2], hx, x) {
+        return axis(d[3], d[1], hy, y);
+    }
     false
 }

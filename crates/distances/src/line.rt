@@ -1,7 +1,7 @@
 // The distances of one line of the map, a function for each way. One running number goes along the line against the way, from the edge on:
 // each crossing's number is made of the one before it.
-use crate::{mark, NONE};
-
+use crate::NONE;
+use crate::mark;
 ghost use Rattle.field.specs.Distances.{eastward, southward, westward, northward};
 ghost use Rattle.distances.specs.Running.{Onward, ReadyAt, ReadyRow, ReadyColumn, Put, Gains, Row, Column};
 

@@ -1,6 +1,5 @@
 // The distances of the whole map, a function for each way: line by line, each into its own part of the sheet.
 use crate::line;
-
 ghost use Rattle.field.specs.Distances.{DistanceSheet, eastward, southward, westward, northward};
 ghost use Rattle.field.specs.Workings.Sheet.{Marked};
 ghost use Rattle.distances.specs.Running.{Ready};

@@ -37,8 +37,7 @@ loop-again : tie.Need-loop-again Inv-loop μ-loop
 loop-again c =
     let loop = c .before .before .before .before .before .loop in
     let ready = gains-ready (c .before .before .before .before .before .before .before .before .pre .ready) (loop .inv .1) in
-    let put = c .before .before .put .ensures in
-    (
+    let put = c .before .before .put .ensures in (
       omega arith,
       gains-put ready (search needs) put (loop .inv .2 _ (omega arith)) (loop .inv .1) (λ a b n d. omega arith) (λ a b n d. omega arith),
       λ p e. ahead-next _ _ (omega arith) (put-clear ready (search needs) put (loop .inv .2 _ (omega arith))),
