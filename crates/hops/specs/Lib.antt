@@ -1,2 +1,3 @@
 -- What the hop code promises.
 pub mod Promise
+pub mod Asking

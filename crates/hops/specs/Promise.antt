@@ -6,11 +6,11 @@ use Rattle.field.specs.Distances.{Assured}
 use Rattle.field.specs.Hops.{HopAnswer, there, one, two}
 use Rattle.field.specs.Workings.Sheet.{Marked}
 use Rattle.distances.specs.Promise.{Fits}
-use Rattle.hops.specs.declared.Hop.{Hop}
-use Rattle.hops.specs.declared.Hop.the-variants.{There, One, Two}
+use Rattle.hops.specs.declared.Answer.{Answer}
+use Rattle.hops.specs.declared.Answer.the-variants.{There, One, Two}
 
 -- Document 01's answer for each case of the enum: "there", one crossing, or two, the east-west one first.
-abbrev pub answered : Hop → HopAnswer
+abbrev pub answered : Answer → HopAnswer
 answered There = there
 answered (One a b) = one a b
 answered (Two a b c d) = two a b c d
