@@ -6,17 +6,14 @@ use mathlib.Core.List.{List}
 use mathlib.Core.Logic.{_≢_}
 use Prim.Native.Nat.{ℕ}
 use Rattle.field.specs.Hops.{HopAnswer, Answers}
-use Rattle.field.specs.Workings.Sheet.{Marked, Draws}
+use Rattle.field.specs.Workings.Sheet.{Marked}
 use Rattle.field.specs.Workings.Marks.{marked-dec}
 use Rattle.field.specs.Workings.Looking.{hopTo, eastWestOf, northSouthOf, answerOf, hopOf}
 use Rattle.field.specs.Workings.HopLaws.{row-permitted, column-permitted}
 use Rattle.field.specs.Workings.AnswerLaws.{east-west-permitted, north-south-permitted, hop-looks}
 use Rattle.field.specs.Geometry.WayHome.{home-hop}
+use Rattle.distances.specs.Drawn.{marked-draws}
 use Rattle.hops.specs.Promise.{MayHop}
-
--- A sheet draws what it marks.
-marked-draws : (w h : ℕ) (s : List ℕ) → Draws w h (Marked s w h) s
-marked-draws w h s = record { sound = λ x y m. m; complete = λ x y m. m }
 
 module _ {w h : ℕ} {s : List ℕ} {hx hy x y : ℕ} (m : MayHop w h s hx hy x y) where
   -- A test that passes is made off home's column, or off its row.
