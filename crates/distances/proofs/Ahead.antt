@@ -8,7 +8,7 @@ use Rattle.field.specs.Map.{side, no-distance, Sides, On, at}
 use Rattle.field.specs.Distances.{Way, Along, Clear, at-closed, nearest, none}
 use Rattle.field.specs.Workings.Sheet.{Marked}
 use Rattle.field.specs.Workings.ClearLaws.{no-distance-far, along-short}
-use Rattle.distances.specs.Running.{Onward, closed, lost, further}
+use Rattle.distances.specs.Running.{Onward, closed, lost, further, Neighbour, edge, next}
 use Rattle.distances.proofs.Ways.{along-start, along-join, along-rest}
 use Rattle.distances.proofs.Looking.{Bare, bare-first, bare-met, bare-past}
 
@@ -31,7 +31,13 @@ module _ {s : List ℕ} {w h : ℕ} {t : Way} {x y : ℕ} where
       met i j (along-join t m x y a b i j l n) c (λ k d e p q o. g (k - 1) d e (omega arith) (along-rest t k x y a b d e p l o))
   ahead-next a b l (none f g e) = missed (λ k c d p o. g (k - 1) c d (along-rest t k x y a b c d p l o)) e
 
-  -- So the number made of what the sheet has at (x, y) and of what lies ahead is the distance of (x, y).
+  -- So there is what a sheet has at the neighbour, where that is the neighbour's distance.
+  pub ahead-neighbour : {u : List ℕ} {r : ℕ} → Neighbour w h t x y u r
+      → ((a b : ℕ) → On w h a b → Along t 1 x y a b → Clear (Marked s w h) t a b (at u w a b)) → Ahead s w h t x y r
+  ahead-neighbour (edge off e) f = subst (Ahead s w h t x y) (sym e) (ahead-edge off)
+  ahead-neighbour (next a b o l e) f = subst (Ahead s w h t x y) (sym e) (ahead-next a b l (f a b o l))
+
+  -- The number made of what the sheet has at (x, y) and of what lies ahead is then the distance of (x, y).
   pub onward-clear : {m r : ℕ} → Sides w h → On w h x y → Onward (at s w x y) m r → Ahead s w h t x y m → Clear (Marked s w h) t x y r
   onward-clear sides o (closed l e) f = at-closed (record { on = o; mark = l }) e
   onward-clear {m} sides o (lost z n e) (met a b l c f) =

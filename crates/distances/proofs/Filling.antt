@@ -5,16 +5,21 @@ use mathlib.Core.List.{List}
 use mathlib.Core.Logic.{_⊎_, inl, inr, _≢_}
 use Prim.Native.Nat.{ℕ, _+_, _*_, _<_, _≤_}
 use native.Mathlib.Omega.{arith}
-use native.Mathlib.Decide.{decLt, ℕ-discrete}
+use native.Mathlib.Decide.{ℕ-discrete}
 use lib.ListN.{length, getD, set, length-set}
 use lib.Seq.{getD-set-same, getD-set-other}
 use Rattle.field.specs.Map.{On, number, at}
 use Rattle.field.specs.Distances.{Way, Clear, DistanceSheet}
 use Rattle.field.specs.Workings.Sheet.{Marked, number-lt}
 use Rattle.field.specs.Workings.GridLaws.{number-one}
-use Rattle.distances.specs.Running.{Ready, Put, Gains, Row, Column}
+use Rattle.distances.specs.Promise.{Asked}
+use Rattle.distances.specs.Running.{Ready, ReadyAfter, Neighbour, Put, Gains, Row}
 use Rattle.distances.proofs.Ways.{moved}
-use Rattle.distances.proofs.Ahead.{Ahead, onward-clear}
+use Rattle.distances.proofs.Ahead.{Ahead, ahead-neighbour, onward-clear}
+
+-- A sheet that is written on can be read as well.
+pub ready-asked : {w h x y : ℕ} {s u : List ℕ} → Ready w h s u → On w h x y → Asked w h u x y
+ready-asked r o = record { fits = record { sides = r .fits .sides; size = r .room }; on = o }
 
 module _ {w h : ℕ} {s : List ℕ} {t : Way} where
   -- The sheet keeps its size.
@@ -43,20 +48,19 @@ module _ {w h : ℕ} {s : List ℕ} {t : Way} where
   pub gains-less : {D E : ℕ → ℕ → Type 0} {u v : List ℕ} → Gains w h s t D u v → ((a b : ℕ) → On w h a b → E a b → D a b) → Gains w h s t E u v
   gains-less g f = record { size = g .size; keeps = g .keeps; gains = λ a b o e. g .gains a b o (f a b o e) }
 
-  -- One row more, and one column more.
-  pub gains-row : {y : ℕ} {u v z : List ℕ} → Gains w h s t (λ a b. b < y) u v → Gains w h s t (Row y) v z → Gains w h s t (λ a b. b < y + 1) u z
-  gains-row {y} g k = gains-then g k (λ a b o l. go b l (decLt b y))
+  -- One row more: all of F but the row is in D.
+  pub gains-row : {D F : ℕ → ℕ → Type 0} {y : ℕ} {u v z : List ℕ} → Gains w h s t D u v → Gains w h s t (Row y) v z
+      → ((a b : ℕ) → b ≢ y → F a b → D a b) → Gains w h s t F u z
+  gains-row {D} {F} {y} g k f = gains-then g k (λ a b o d. go a b d (ℕ-discrete b y))
     where
-      go : (b : ℕ) → b < y + 1 → Dec (b < y) → (b < y) ⊎ (b ≡ y)
-      go b l (yes p) = inl p
-      go b l (no p) = inr (omega arith)
+      go : (a b : ℕ) → F a b → Dec (b ≡ y) → D a b ⊎ (b ≡ y)
+      go a b d (yes e) = inr e
+      go a b d (no n) = inl (f a b n d)
 
-  pub gains-column : {x : ℕ} {u v z : List ℕ} → Gains w h s t (λ a b. a < x) u v → Gains w h s t (Column x) v z → Gains w h s t (λ a b. a < x + 1) u z
-  gains-column {x} g k = gains-then g k (λ a b o l. go a l (decLt a x))
-    where
-      go : (a : ℕ) → a < x + 1 → Dec (a < x) → (a < x) ⊎ (a ≡ x)
-      go a l (yes p) = inl p
-      go a l (no p) = inr (omega arith)
+  -- The neighbours that had their distances before a gain have them after it: so what is read there is what lies ahead.
+  pub gains-ahead : {D : ℕ → ℕ → Type 0} {x y r : ℕ} {u v : List ℕ} → ReadyAfter w h s t u y → Gains w h s t D u v → Neighbour w h t x y v r
+      → Ahead s w h t x y r
+  gains-ahead {x = x} q g n = ahead-neighbour n (λ a b o l. g .keeps a b o (q .after x a b o l))
 
   -- The sheet that has gained every crossing.
   pub gains-sheet : {D : ℕ → ℕ → Type 0} {u v : List ℕ} → Ready w h s u → Gains w h s t D u v → ((a b : ℕ) → On w h a b → D a b)

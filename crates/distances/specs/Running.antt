@@ -5,7 +5,7 @@ use mathlib.Core.Logic.{_≢_}
 use Prim.Native.Nat.{ℕ, _+_, _*_, _<_}
 use lib.ListN.{length, set}
 use Rattle.field.specs.Map.{On, number, at, no-distance}
-use Rattle.field.specs.Distances.{Way, Clear}
+use Rattle.field.specs.Distances.{Way, Along, Clear}
 use Rattle.field.specs.Workings.Sheet.{Marked}
 use Rattle.distances.specs.Promise.{Fits}
 
@@ -21,7 +21,7 @@ pub record Ready (w h : ℕ) (s u : List ℕ) : Type 0 where
   pub fits : Fits w h s
   pub room : length u ≡ h * w
 
--- The same with a place of the map, with a row, and with a column.
+-- The same with a place of the map, and with a row.
 pub record ReadyAt (w h : ℕ) (s u : List ℕ) (x y : ℕ) : Type 0 where
   pub ready : Ready w h s u
   pub on : On w h x y
@@ -30,9 +30,16 @@ pub record ReadyRow (w h : ℕ) (s u : List ℕ) (y : ℕ) : Type 0 where
   pub ready : Ready w h s u
   pub in-y : y < h
 
-pub record ReadyColumn (w h : ℕ) (s u : List ℕ) (x : ℕ) : Type 0 where
+-- The same with a row after which another stands that way: the neighbours of its crossings have their distances already.
+pub record ReadyAfter (w h : ℕ) (s : List ℕ) (t : Way) (u : List ℕ) (y : ℕ) : Type 0 where
   pub ready : Ready w h s u
-  pub in-x : x < w
+  pub in-y : y < h
+  pub after : (x a b : ℕ) → On w h a b → Along t 1 x y a b → Clear (Marked s w h) t a b (at u w a b)
+
+-- What sheet u has at the neighbour of (x, y) that way, or the mark for none at the edge.
+pub data Neighbour (w h : ℕ) (t : Way) (x y : ℕ) (u : List ℕ) (r : ℕ) : Type 0 where
+  edge : ((k a b : ℕ) → 0 < k → Along t k x y a b → ¬ On w h a b) → r ≡ no-distance → Neighbour w h t x y u r
+  next : (a b : ℕ) → On w h a b → Along t 1 x y a b → r ≡ at u w a b → Neighbour w h t x y u r
 
 -- The number r of (x, y) is made of the one before it, and is all that is written.
 pub record Put (w x y last : ℕ) (s u v : List ℕ) (r : ℕ) : Type 0 where
@@ -45,9 +52,6 @@ pub record Gains (w h : ℕ) (s : List ℕ) (t : Way) (D : ℕ → ℕ → Type 
   pub keeps : (a b : ℕ) → On w h a b → Clear (Marked s w h) t a b (at u w a b) → Clear (Marked s w h) t a b (at v w a b)
   pub gains : (a b : ℕ) → On w h a b → D a b → Clear (Marked s w h) t a b (at v w a b)
 
--- The crossings of row y, and those of column x.
+-- The crossings of row y.
 abbrev pub Row : ℕ → ℕ → ℕ → Type 0
 Row y a b = b ≡ y
-
-abbrev pub Column : ℕ → ℕ → ℕ → Type 0
-Column x a b = a ≡ x

@@ -1,6 +1,6 @@
 // Clear distances of one crossing and of the whole map, and whether home is assured, over a sheet that marks the closed crossings.
-mod line; // line.rt: the distances of a row or a column
 mod look; // look.rt: the distance of one crossing
+mod row; // row.rt: the distances of a row
 mod sheet; // sheet.rt: the distances of the map
 
 ghost use mathlib.Core.Path.{_≡_};

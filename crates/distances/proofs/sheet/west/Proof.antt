@@ -18,7 +18,11 @@ loop-holds c = (omega arith, gains-none (λ a b o d. omega arith))
 
 west-requires : tie.Need-west-requires Inv-loop μ-loop
 west-requires c κs =
-    record { ready = gains-ready (c .before .before .before .before .before .pre) (c .before .before .loop .inv .1); in-y = omega arith }
+    let loop = c .before .before .loop in
+    record {
+      ready = gains-ready (c .before .before .before .before .before .pre) (loop .inv .1);
+      in-y = omega arith;
+    }
 
 add-y : tie.Need-add-y Inv-loop μ-loop
 add-y c = omega arith
@@ -27,7 +31,8 @@ loop-less : tie.Need-loop-less Inv-loop μ-loop
 loop-less c = omega arith
 
 loop-again : tie.Need-loop-again Inv-loop μ-loop
-loop-again c = (omega arith, gains-row (c .before .before .before .before .before .loop .inv .1) (c .before .before .west .ensures))
+loop-again c =
+    (omega arith, gains-row (c .before .before .before .before .before .loop .inv .1) (c .before .before .west .ensures) (λ a b n l. omega arith))
 
 same-length : tie.Need-same-length Inv-loop μ-loop
 same-length c = c .before .loop .inv .1 .size

@@ -1,11 +1,11 @@
--- `line::run_on` meets its contract: its three ways out are the three cases.
+-- `row::run_on` meets its contract: its three ways out are the three cases.
 use mathlib.Core.Path.{refl}
 use native.Mathlib.Omega.{arith}
 use borrow.Author.Needs.{needs}
 use Rattle.field.specs.Map.{no-distance}
 use Rattle.distances.specs.Running.{closed, lost, further}
-use Rattle.distances.proofs.line.run_on.Statement.{statement}
-use Rattle.distances.proofs.line.run_on.Tie as tie
+use Rattle.distances.proofs.row.run_on.Statement.{statement}
+use Rattle.distances.proofs.row.run_on.Tie as tie
 
 returns : tie.Need-returns
 returns c = closed (omega arith) refl

@@ -1,10 +1,10 @@
--- `line::put` meets its contract: a crossing's number is below the number of crossings, which is the length of both sheets.
+-- `row::put` meets its contract: a crossing's number is below the number of crossings, which is the length of both sheets.
 use mathlib.Core.Path.{refl}
 use native.Mathlib.Omega.{arith}
 use borrow.Author.Needs.{needs}
 use Rattle.field.specs.Workings.Sheet.{number-lt}
-use Rattle.distances.proofs.line.put.Statement.{statement}
-use Rattle.distances.proofs.line.put.Tie as tie
+use Rattle.distances.proofs.row.put.Statement.{statement}
+use Rattle.distances.proofs.row.put.Tie as tie
 
 mark-requires : tie.Need-mark-requires
 mark-requires c κs = search needs
