@@ -1,12 +1,12 @@
 -- Filling a sheet with the distances one way. A store of a crossing's own distance takes nothing from any crossing that has its distance already,
--- so what lines and sheets gain is what their crossings gain one after the other.
+-- so what rows and sheets gain is what their crossings gain one after the other.
 use mathlib.Core.Path.{_≡_, refl, sym, subst, ap, _∙_}
 use mathlib.Core.List.{List}
 use mathlib.Core.Logic.{_⊎_, inl, inr, _≢_}
-use Prim.Native.Nat.{ℕ, _+_, _*_, _<_, _≤_}
+use Prim.Native.Nat.{ℕ}
 use native.Mathlib.Omega.{arith}
 use native.Mathlib.Decide.{ℕ-discrete}
-use lib.ListN.{length, getD, set, length-set}
+use lib.ListN.{length, length-set}
 use lib.Seq.{getD-set-same, getD-set-other}
 use Rattle.field.specs.Map.{On, number, at}
 use Rattle.field.specs.Distances.{Way, Clear, DistanceSheet}
@@ -26,7 +26,7 @@ module _ {w h : ℕ} {s : List ℕ} {t : Way} where
   pub gains-ready : {D : ℕ → ℕ → Type 0} {u v : List ℕ} → Ready w h s u → Gains w h s t D u v → Ready w h s v
   gains-ready r g = record { fits = r .fits; room = g .size ∙ r .room }
 
-  -- Nothing is gained where nothing is asked.
+  -- At first nothing is gained.
   pub gains-none : {D : ℕ → ℕ → Type 0} {u : List ℕ} → ((a b : ℕ) → On w h a b → ¬ D a b) → Gains w h s t D u u
   gains-none f = record { size = refl; keeps = λ a b o c. c; gains = λ a b o d. absurd (f a b o d) }
 
@@ -44,11 +44,11 @@ module _ {w h : ℕ} {s : List ℕ} {t : Way} where
       go a b o (inl d) = k .keeps a b o (g .gains a b o d)
       go a b o (inr e) = k .gains a b o e
 
-  -- What is gained by less.
+  -- Less is gained as well.
   pub gains-less : {D E : ℕ → ℕ → Type 0} {u v : List ℕ} → Gains w h s t D u v → ((a b : ℕ) → On w h a b → E a b → D a b) → Gains w h s t E u v
   gains-less g f = record { size = g .size; keeps = g .keeps; gains = λ a b o e. g .gains a b o (f a b o e) }
 
-  -- One row more: all of F but the row is in D.
+  -- After D has gained, and then row y, all of F has: each of its crossings outside the row is in D.
   pub gains-row : {D F : ℕ → ℕ → Type 0} {y : ℕ} {u v z : List ℕ} → Gains w h s t D u v → Gains w h s t (Row y) v z
       → ((a b : ℕ) → b ≢ y → F a b → D a b) → Gains w h s t F u z
   gains-row {D} {F} {y} g k f = gains-then g k (λ a b o d. go a b d (ℕ-discrete b y))
@@ -96,7 +96,7 @@ module _ {w h : ℕ} {s : List ℕ} {t : Way} where
           gains = λ a b m e. gained a b (sym (e .0), sym (e .1));
         }
 
-    -- And so after D has gained all of F gains that is in D or is the crossing itself.
+    -- After D has gained, all of F has: each of its crossings but this one is in D.
     pub gains-put : {D F : ℕ → ℕ → Type 0} {z : List ℕ} → Gains w h s t D z u → ((a b : ℕ) → a ≢ x → F a b → D a b)
         → ((a b : ℕ) → b ≢ y → F a b → D a b) → Gains w h s t F z v
     gains-put {D} {F} g i j = gains-then g put-gains (λ a b m d. go a b d (ℕ-discrete a x) (ℕ-discrete b y))

@@ -9,8 +9,8 @@ use Rattle.field.specs.Distances.{Way, Along, Clear}
 use Rattle.field.specs.Workings.Sheet.{Marked}
 use Rattle.distances.specs.Promise.{Fits}
 
--- A crossing's number r, from what the sheet has there, v, and from the number of its neighbour that way, where no neighbour has the mark for none:
--- 0 where it is closed, none where the neighbour has none, and else one more.
+-- A crossing's number r, from what the sheet has there, v, and from its neighbour's number that way, which is the mark for none at the edge:
+-- 0 where the crossing is closed, none where the neighbour has none, and else one more.
 pub data Onward (v last r : ℕ) : Type 0 where
   closed : 0 < v → r ≡ 0 → Onward v last r
   lost : v ≡ 0 → last ≡ no-distance → r ≡ no-distance → Onward v last r
@@ -30,7 +30,7 @@ pub record ReadyRow (w h : ℕ) (s u : List ℕ) (y : ℕ) : Type 0 where
   pub ready : Ready w h s u
   pub in-y : y < h
 
--- The same with a row after which another stands that way: the neighbours of its crossings have their distances already.
+-- The same with a row whose crossings' neighbours that way have their distances already.
 pub record ReadyAfter (w h : ℕ) (s : List ℕ) (t : Way) (u : List ℕ) (y : ℕ) : Type 0 where
   pub ready : Ready w h s u
   pub in-y : y < h
@@ -41,7 +41,7 @@ pub data Neighbour (w h : ℕ) (t : Way) (x y : ℕ) (u : List ℕ) (r : ℕ) : 
   edge : ((k a b : ℕ) → 0 < k → Along t k x y a b → ¬ On w h a b) → r ≡ no-distance → Neighbour w h t x y u r
   next : (a b : ℕ) → On w h a b → Along t 1 x y a b → r ≡ at u w a b → Neighbour w h t x y u r
 
--- The number r of (x, y) is made of the one before it, and is all that is written.
+-- The number r of (x, y) is made of its neighbour's, `last`, and is all that is written.
 pub record Put (w x y last : ℕ) (s u v : List ℕ) (r : ℕ) : Type 0 where
   pub onward : Onward (at s w x y) last r
   pub written : v ≡ set u (number w x y) r

@@ -15,7 +15,7 @@ ghost use Rattle.distances.specs.Promise.{Asked, AskedHome, Lent, Measur
 // What stands for a distance where there is none.
 const NONE: u8 = 255;
 
-// What the sheet has at (x, y): 0 where it is open.
+// What the sheet has at (x, y): 0 where the crossing is open.
 pub fn mark(s: &[u8], w: usize, h: usize, x: usize, y: usize) -> u8
     requires { ⌜ Asked w h (now s) x y ⌝ }
     ensures { λ r. ⌜ r ≡ at (now (s .entry)) w x y ⌝ }
@@ -65,7 +65,7 @@ fn enough(offset: usize, n: u8) -> bool
     offset < n as usize
 }
 
-// Whether one axis assures the place at p of home at m, with home's distances upwards and downwards.
+// Whether one axis lets home at m be assured for the place at p, with home's distances upwards and downwards on it.
 fn axis(up: u8, down: u8, m: usize, p: usize) -> bool
     ensures { λ r. ⌜ r ≡ axisOf up down m p ⌝ }
 {

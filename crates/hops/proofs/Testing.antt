@@ -1,15 +1,15 @@
 -- The tests of the hop call, as the code makes them: a hop homeward stays on the map, and there a crossing is open where it has no mark.
-use mathlib.Core.Path.{_≡_, refl, sym, _∙_}
-use mathlib.Core.Bool.{Bool, true, false, cond}
+use mathlib.Core.Path.{_≡_, sym, _∙_}
+use mathlib.Core.Bool.{false}
 use mathlib.Core.List.{List}
 use mathlib.Core.Logic.{_≢_}
-use Prim.Native.Nat.{ℕ, _+_, _<_}
+use Prim.Native.Nat.{ℕ, _<_}
 use native.Mathlib.Omega.{arith}
 use native.Mathlib.Decide.{decLt}
 use lib.Dec.{eqb}
 use borrow.Author.Tests.{lt-ltb, eq-eqb, ne-eqb}
 use Rattle.field.specs.Map.{On, at}
-use Rattle.field.specs.Workings.Sheet.{Marked, lit}
+use Rattle.field.specs.Workings.Sheet.{lit}
 use Rattle.field.specs.Workings.Marks.{marked-lit, unmarked-lit}
 use Rattle.field.specs.Workings.Looking.{openOf, hopTo, eastWestOf, northSouthOf}
 use Rattle.field.specs.Workings.HopLaws.{hop-up, hop-down}

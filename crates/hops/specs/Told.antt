@@ -1,16 +1,14 @@
 -- What the hop's answer tells of the closed crossings that the sheet draws: it names exactly the permitted hops, and is "there" exactly at home.
 -- A hop is permitted over the sheet's marks where it is permitted over C, for the two agree on which crossings are open.
-use mathlib.Core.Path.{_≡_, sym, _∙_, subst, subst₂}
+use mathlib.Core.Path.{_≡_, sym, _∙_, subst₂}
 use mathlib.Core.List.{List}
 use mathlib.Core.Logic.{_⊎_, inl, inr, _↔_}
 use Prim.Native.Nat.{ℕ}
 use native.Mathlib.Omega.{arith}
-use Rattle.field.specs.Map.{Near, Apart}
 use Rattle.field.specs.Labels.{Stable, Open}
 use Rattle.field.specs.Distances.{Assured}
 use Rattle.field.specs.Hops.{Permitted, There, HopAnswer, there, one, two, Answers, at-home, just, both}
 use Rattle.field.specs.Workings.Sheet.{Marked, Draws}
-use Rattle.field.specs.Workings.Looking.{hopTo}
 use Rattle.field.specs.Workings.HopLaws.{ByRow, ByColumn, permitted-which, permitted-other, permitted-away}
 use Rattle.distances.specs.Promise.{Fits}
 use Rattle.distances.specs.Drawn.{assured-drawn}
@@ -23,7 +21,7 @@ Names (one c d) a b = (a ≡ c) × (b ≡ d)
 Names (two c d e f) a b = ((a ≡ c) × (b ≡ d)) ⊎ ((a ≡ e) × (b ≡ f))
 
 module _ {w h : ℕ} {C : ℕ → ℕ → Type 0} {hx hy x y : ℕ} where
-  -- Of two permitted hops on one row, and of two on one column, there is one.
+  -- The permitted hop on the row is the one that leads along the row, and so on the column.
   same-row : {a b c d : ℕ} → Permitted w h C hx hy x y a b → b ≡ y → ByRow hx x y c d → (c ≡ a) × (d ≡ b)
   same-row {a} {b} {c} {d} p e q = go (permitted-which p)
     where
@@ -38,7 +36,7 @@ module _ {w h : ℕ} {C : ℕ → ℕ → Type 0} {hx hy x y : ℕ} where
       go (inl r) = absurd (permitted-other p (e, r .1))
       go (inr r) = (q .0 ∙ sym (r .0), q .1 ∙ sym (r .1))
 
-  -- A place that is named by its coordinates' other names.
+  -- The hop to a crossing under other names for its coordinates.
   renamed : {a b c d : ℕ} → Permitted w h C hx hy x y c d → (a ≡ c) × (b ≡ d) → Permitted w h C hx hy x y a b
   renamed p e = subst₂ (Permitted w h C hx hy x y) (sym (e .0)) (sym (e .1)) p
 
@@ -64,21 +62,21 @@ module _ {w h : ℕ} {C : ℕ → ℕ → Type 0} {hx hy x y : ℕ} where
 
 -- A sheet that draws C.
 module _ {w h : ℕ} {C : ℕ → ℕ → Type 0} {s : List ℕ} (D : Draws w h C s) where
-  -- What is open is open.
+  -- A crossing without a mark is a crossing outside C.
   open-drawn : {x y : ℕ} → (Open w h (Marked s w h) x y ↔ Open w h C x y)
   open-drawn {x} {y} = (
     λ o. record { on = o .on; free = λ c. o .free (D .complete x y c) },
     λ o. record { on = o .on; free = λ m. o .free (D .sound x y m) },
   )
 
-  -- What is permitted is permitted.
+  -- So the same hops are permitted.
   permitted-drawn : {hx hy x y a b : ℕ} → (Permitted w h (Marked s w h) hx hy x y a b ↔ Permitted w h C hx hy x y a b)
   permitted-drawn = (
     λ p. record { near = p .near; to = open-drawn .0 (p .to); homeward = p .homeward },
     λ p. record { near = p .near; to = open-drawn .1 (p .to); homeward = p .homeward },
   )
 
-  -- So the answer over the sheet's marks is the answer over C.
+  -- The answer over the sheet's marks is the answer over C.
   pub answers-drawn : {hx hy x y : ℕ} {r : HopAnswer} → Answers w h (Marked s w h) hx hy x y r → Answers w h C hx hy x y r
   answers-drawn (at-home t e) = at-home t e
   answers-drawn (just a b p f e) = just a b (permitted-drawn .0 p) (λ c d q. f c d (permitted-drawn .1 q)) e

@@ -1,5 +1,4 @@
 -- `enough` meets its contract: it makes the comparison of the definition.
-use mathlib.Core.Path.{refl}
 use native.Mathlib.Omega.{arith}
 use borrow.Author.Tests.{eq-eqb, ne-eqb}
 use Rattle.field.specs.Map.{no-distance}

@@ -1,6 +1,5 @@
 -- `toward` meets its contract: up where d lies above p, and else down.
 use mathlib.Core.Path.{sym}
-use native.Mathlib.Omega.{arith}
 use borrow.Author.Needs.{needs}
 use Rattle.field.specs.Workings.HopLaws.{hop-up, hop-down}
 use Rattle.hops.proofs.toward.Statement.{statement}
