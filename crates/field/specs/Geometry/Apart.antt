@@ -1,54 +1,53 @@
 -- Any two groups are at least three hops apart: two closed crossings at most two hops apart are neighbours, or have a crossing between them, which
 -- has two closed neighbours and so is closed. How far two groups are apart is read off their rectangles.
-use mathlib.Core.Path.{_≡_, refl, sym, subst}
+use mathlib.Core.Path.{_≡_, refl, sym}
 use mathlib.Core.Logic.{_↔_}
 use Prim.Native.Nat.{ℕ, _≤_}
 use native.Mathlib.Omega.{arith}
-use native.Mathlib.Decide.{decLe, ℕ-discrete, map-dec}
+use native.Mathlib.Decide.{ℕ-discrete, map-dec}
 use Rattle.field.specs.Map.{On, OnMap, Near, dist}
 use Rattle.field.specs.Labels.{Stable}
 use Rattle.field.specs.Groups.{Linked, here, step, GroupsApart}
+use Rattle.field.specs.Workings.Tests.{only}
+use Rattle.field.specs.Workings.Looking.{hopTo}
+use Rattle.field.specs.Workings.AxisLaws.{hop-step, hop-nearer, hop-below}
+use Rattle.field.specs.Workings.GridLaws.{dist-none, dist-zero, dist-apart, dist-near, near-turned, step-row, step-column}
 use Rattle.field.specs.Geometry.Shapes.{Within, Rectangle, rectanglesApart}
-use Rattle.field.specs.Geometry.Links.{near-back, near-row, near-column, linked-to, linked-sym, linked-trans}
+use Rattle.field.specs.Geometry.Links.{linked-to, linked-sym, linked-trans}
 use Rattle.field.specs.Geometry.Rectangles.{group-rectangle}
-use Rattle.field.specs.Geometry.Offsets.{gap-same, gap-none, dist-near, dist-apart, Next, next, intervals-apart, Closest, closest}
+use Rattle.field.specs.Geometry.Offsets.{intervals-apart, Closest, closest}
 
 module _ (w h : ℕ) (C : ℕ → ℕ → Type 0) (on : OnMap w h C) (st : Stable w h C) where
   -- By way of (u, v), a neighbour of both.
   linked-via : {a b c d : ℕ} (u v : ℕ) → On w h u v → C a b → C c d → Near a b u v → dist u v c d ≡ 1 → dist a b c d ≡ 2 → Linked C a b c d
   linked-via {a} {b} {c} {d} u v o p q n e f =
       let m : Near u v c d = dist-near u v c d e in
-      step (step (here refl refl p) n (st u v a b c d o (near-back n) m (dist-apart a b c d (omega arith)) p q)) m q
+      step (step (here refl refl p) n (st u v a b c d o (near-turned n) m (dist-apart a b c d (omega arith)) p q)) m q
 
   linked-two : (a b c d : ℕ) → C a b → C c d → dist a b c d ≡ 2 → Linked C a b c d
   linked-two a b c d p q e = go (ℕ-discrete a c)
     where
       go : Dec (a ≡ c) → Linked C a b c d
       go (no n) =
-          let t : Next c a = next c a n in
-          linked-via (t .place) b (record { in-x = t .bound w (on a b p .in-x) (on c d q .in-x); in-y = on a b p .in-y }) p q
-          (near-row (t .beside) b) (omega (arith, t .nearer)) e
+          linked-via (hopTo a c) b (record { in-x = hop-below a c w (on a b p .in-x) (on c d q .in-x); in-y = on a b p .in-y }) p q
+          (step-row (hop-step a c n) b) (omega (arith, hop-nearer a c n)) e
       go (yes z) =
-          let t : Next d b = next d b (λ y. omega (arith, gap-same z, gap-same y)) in
-          linked-via a (t .place) (record { in-x = on a b p .in-x; in-y = t .bound h (on a b p .in-y) (on c d q .in-y) }) p q
-          (near-column (t .beside) a) (omega (arith, t .nearer)) e
+          let n : ¬ (b ≡ d) = λ y. omega (arith, dist-none z y) in
+          linked-via a (hopTo b d) (record { in-x = on a b p .in-x; in-y = hop-below b d h (on a b p .in-y) (on c d q .in-y) }) p q
+          (step-column (hop-step b d n) a) (omega (arith, hop-nearer b d n)) e
 
   -- Two closed crossings at most two hops apart are in one group.
   pub linked-close : (a b c d : ℕ) → C a b → C c d → dist a b c d ≤ 2 → Linked C a b c d
   linked-close a b c d p q l = go (ℕ-discrete (dist a b c d) 0) (ℕ-discrete (dist a b c d) 1)
     where
       go : Dec (dist a b c d ≡ 0) → Dec (dist a b c d ≡ 1) → Linked C a b c d
-      go (yes e) t = here (sym (gap-none a c (omega arith))) (sym (gap-none b d (omega arith))) q
+      go (yes e) t = let z = dist-zero a b c d e in here (sym (z .0)) (sym (z .1)) q
       go (no e) (yes f) = step (here refl refl p) (dist-near a b c d f) q
       go (no e) (no f) = linked-two a b c d p q (omega arith)
 
   -- Two closed crossings of different groups are at least three hops apart.
   pub three-apart : (a b c d : ℕ) → C a b → C c d → ¬ Linked C a b c d → 3 ≤ dist a b c d
-  three-apart a b c d p q n = go (decLe 3 (dist a b c d))
-    where
-      go : Dec (3 ≤ dist a b c d) → 3 ≤ dist a b c d
-      go (yes l) = l
-      go (no l) = absurd (n (linked-close a b c d p q (omega arith)))
+  three-apart a b c d p q n = let k : ¬ (dist a b c d ≤ 2) = λ l. n (linked-close a b c d p q l) in omega arith
 
   -- And so are any two groups.
   pub groups-three-apart : {x y a b n : ℕ} → GroupsApart C x y a b n → ¬ Linked C x y a b → 3 ≤ n
@@ -98,7 +97,7 @@ module _ {C : ℕ → ℕ → Type 0} {x y a b : ℕ} (p : Rectangle C x y) (q :
           }
 
   pub rectangles-apart : (n : ℕ) → GroupsApart C x y a b n ↔ (n ≡ rectanglesApart p q)
-  rectangles-apart n = (λ g. groups-apart-one g rectangles-as-near, λ e. subst (GroupsApart C x y a b) (sym e) rectangles-as-near)
+  rectangles-apart = only (GroupsApart C x y a b) (rectanglesApart p q) rectangles-as-near (λ n m. groups-apart-one)
 
 -- So any two groups of C have a distance, and it can be told whether a number is it.
 module _ (w h : ℕ) (C : ℕ → ℕ → Type 0) (on : OnMap w h C) (st : Stable w h C) (dec : (x y : ℕ) → Dec (C x y)) where

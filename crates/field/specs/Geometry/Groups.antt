@@ -1,31 +1,25 @@
 -- Each group has one crossing of lowest number, and no two: the southwest corner of its rectangle. So the groups are counted by the closed
 -- crossings with neither a closed west nor a closed south neighbour.
-use mathlib.Core.Path.{_≡_, refl, subst, ap}
-use mathlib.Core.Logic.{_↔_}
-use Prim.Native.Nat.{ℕ, zero, suc, _+_, _*_, _-_, _<_, _≤_}
+use mathlib.Core.Path.{_≡_, refl, subst}
+use mathlib.Core.Logic.{_↔_, Dec·and}
+use Prim.Native.Nat.{ℕ, zero, suc, _+_, _-_, _<_, _≤_}
 use native.Mathlib.Omega.{arith}
 use native.Mathlib.Nat.{mul-le-mul-right}
 use native.Mathlib.Decide.{decLe, map-dec}
 use Rattle.field.specs.Map.{OnMap, west, south, number}
 use Rattle.field.specs.Labels.{Stable, count, Count}
 use Rattle.field.specs.Groups.{Linked, here, step, Lowest, Groups}
+use Rattle.field.specs.Workings.GridLaws
+use Rattle.field.specs.Workings.GridLaws.{number-north}
+use Rattle.field.specs.Workings.Counting.{Same, count-moved}
 use Rattle.field.specs.Geometry.Shapes.{Within, Rectangle, Corner}
 use Rattle.field.specs.Geometry.Links.{linked-to, linked-from, linked-sym}
-use Rattle.field.specs.Geometry.Offsets.{Order, less, same, more, order}
 use Rattle.field.specs.Geometry.Rectangles.{span-row, span-column, group-rectangle}
-use Rattle.field.specs.Workings.Counting.{Same, count-moved}
 
--- A crossing further north has a higher number, and two crossings of the map have two numbers.
-number-north : (w x y a b : ℕ) → x < w → y < b → number w x y < number w a b
-number-north w x y a b l m = omega (arith, mul-le-mul-right {m = suc y} {n = b} w m)
-
+-- Two crossings of the map have two numbers, however high it is.
 pub number-one : (w x y a b : ℕ) → x < w → a < w → number w x y ≡ number w a b → (x ≡ a) × (y ≡ b)
-number-one w x y a b l m e = go (order y b)
-  where
-    go : Order y b → (x ≡ a) × (y ≡ b)
-    go (less n) = absurd (omega (arith, number-north w x y a b l n))
-    go (same n) = (omega (arith, ap (λ (j : ℕ). j * w) n), n)
-    go (more n) = absurd (omega (arith, number-north w a b x y m n))
+number-one w x y a b l m =
+    GridLaws.number-one {h = suc (y + b)} (record { in-x = m; in-y = omega arith }) (record { in-x = l; in-y = omega arith })
 
 module _ (w h : ℕ) (C : ℕ → ℕ → Type 0) (on : OnMap w h C) (st : Stable w h C) where
   -- A crossing has the lowest number of its group exactly if it is a corner: the group's row and column through it are closed as far as the group
@@ -71,23 +65,15 @@ below-dec P dec (suc x) = go (dec x)
     go (no n) = yes (λ a e p. n (subst P (omega arith) p))
 
 pub corner-dec : (C : ℕ → ℕ → Type 0) → ((x y : ℕ) → Dec (C x y)) → (x y : ℕ) → Dec (Corner C x y)
-corner-dec C dec x y = go (dec x y) (below-dec (λ a. C a y) (λ a. dec a y) x) (below-dec (C x) (dec x) y)
-  where
-    go : Dec (C x y) → Dec ((a : ℕ) → a + 1 ≡ x → ¬ C a y) → Dec ((b : ℕ) → b + 1 ≡ y → ¬ C x b) → Dec (Corner C x y)
-    go (yes c) (yes f) (yes g) = yes (record { closed = c; no-west = f; no-south = g })
-    go (yes c) (yes f) (no g) = no (λ t. g (t .no-south))
-    go (yes c) (no f) d = no (λ t. f (t .no-west))
-    go (no c) d e = no (λ t. c (t .closed))
+corner-dec C dec x y =
+    map-dec (λ t. record { closed = t .0; no-west = t .1 .0; no-south = t .1 .1 }) (λ t. (t .closed, (t .no-west, t .no-south)))
+    (Dec·and (dec x y) (Dec·and (below-dec (λ a. C a y) (λ a. dec a y) x) (below-dec (C x) (dec x) y)))
 
 within-dec : (x₀ x₁ y₀ y₁ a b : ℕ) → Dec (Within x₀ x₁ y₀ y₁ a b)
-within-dec x₀ x₁ y₀ y₁ a b = go (decLe x₀ a) (decLe a x₁) (decLe y₀ b) (decLe b y₁)
-  where
-    go : Dec (x₀ ≤ a) → Dec (a ≤ x₁) → Dec (y₀ ≤ b) → Dec (b ≤ y₁) → Dec (Within x₀ x₁ y₀ y₁ a b)
-    go (yes p) (yes q) (yes r) (yes s) = yes (record { from-west = p; to-east = q; from-south = r; to-north = s })
-    go (yes p) (yes q) (yes r) (no s) = no (λ t. s (t .to-north))
-    go (yes p) (yes q) (no r) d = no (λ t. r (t .from-south))
-    go (yes p) (no q) d e = no (λ t. q (t .to-east))
-    go (no p) d e f = no (λ t. p (t .from-west))
+within-dec x₀ x₁ y₀ y₁ a b =
+    map-dec (λ t. record { from-west = t .0 .0; to-east = t .0 .1; from-south = t .1 .0; to-north = t .1 .1 })
+    (λ t. ((t .from-west, t .to-east), (t .from-south, t .to-north)))
+    (Dec·and (Dec·and (decLe x₀ a) (decLe a x₁)) (Dec·and (decLe y₀ b) (decLe b y₁)))
 
 module _ (w h : ℕ) (C : ℕ → ℕ → Type 0) (on : OnMap w h C) (st : Stable w h C) (dec : (x y : ℕ) → Dec (C x y)) where
   -- Whether two crossings are in one group can be told from the rectangle.

@@ -5,12 +5,14 @@ use mathlib.Core.Logic.{_⊎_, inl, inr}
 use Prim.Native.Nat.{ℕ, _+_, _<_, _≤_}
 use native.Mathlib.Omega.{arith}
 use native.Mathlib.Decide.{ℕ-discrete}
-use Rattle.field.specs.Map.{Sides, On, OnMap, side, no-distance, gap}
+use Rattle.field.specs.Map.{Sides, On, OnMap, no-distance, gap}
 use Rattle.field.specs.Labels.{Open}
 use Rattle.field.specs.Distances.{Way, eastward, southward, westward, northward, Along, Clear, at-closed, nearest, none}
 use Rattle.field.specs.Distances.{Enough, nothing-that-way, nearer, Axis, level, above, below}
+use Rattle.field.specs.Workings.AxisLaws.{gap-turned, gap-above}
+use Rattle.field.specs.Workings.GridLaws.{no-distance-far, along-short}
 use Rattle.field.specs.Geometry.Shapes.{Between}
-use Rattle.field.specs.Geometry.Offsets.{gap-above, gap-back, gap-between}
+use Rattle.field.specs.Geometry.Offsets.{gap-between}
 
 -- The distance is n: there is nothing that way, or k hops end before it.
 abbrev Short : ℕ → ℕ → Type 0
@@ -24,15 +26,9 @@ enough-lesser (nearer m) l = (nearer (omega arith), inr (omega arith))
 
 -- On document 01's maps no two crossings of a line are as far apart as the number that marks no distance, so that it is no distance. On a
 -- wider map it could be one.
-side-no-distance : side ≤ no-distance
-unfolding side no-distance
-side-no-distance = omega arith
-
 along-length : {w h : ℕ} (t : Way) (n x y a b : ℕ) → Sides w h → On w h x y → On w h a b → Along t n x y a b → n < no-distance
-along-length eastward n x y a b s o p l = omega (arith, s .most-w, p .in-x, l .0, side-no-distance)
-along-length southward n x y a b s o p l = omega (arith, s .most-h, o .in-y, l .1, side-no-distance)
-along-length westward n x y a b s o p l = omega (arith, s .most-w, o .in-x, l .0, side-no-distance)
-along-length northward n x y a b s o p l = omega (arith, s .most-h, p .in-y, l .1, side-no-distance)
+along-length {w} {h} t n x y a b s =
+    along-short t no-distance w h n x y a b (omega (arith, s .most-w, no-distance-far)) (omega (arith, s .most-h, no-distance-far))
 
 -- Short of home's distance nothing is closed.
 clear-short : {w h : ℕ} {C : ℕ → ℕ → Type 0} {t : Way} {hx hy n : ℕ} → Sides w h → OnMap w h C → Open w h C hx hy → Clear C t hx hy n
@@ -66,7 +62,7 @@ module _ {D : Way → ℕ → Type 0} {up down : Way} {m p : ℕ} where
       f n (gap m v) v d (enough-lesser r (gap-between m p v b e) .1) (sym (gap-above k))
   axis-open P f g (below l n d r) v b e =
       let k : v ≤ m = omega arith in
-      g n (gap m v) v d (enough-lesser r (gap-between m p v b e) .1) (omega (arith, gap-above k, gap-back m v))
+      g n (gap m v) v d (enough-lesser r (gap-between m p v b e) .1) (omega (arith, gap-above k, gap-turned m v))
 
 module _ {w h : ℕ} {C : ℕ → ℕ → Type 0} {hx hy : ℕ} (s : Sides w h) (on : OnMap w h C) (home : Open w h C hx hy) where
   -- Of home's row, and of its column, nothing is closed from home on, up to the place's own column, or row.

@@ -1,37 +1,25 @@
 -- Places on one line, a row or a column: going from one to another step by step, and how far a run of a set reaches. Each is an induction on
 -- numbers.
-use mathlib.Core.Path.{_≡_, sym, subst}
+use mathlib.Core.Path.{_≡_, subst}
 use Prim.Native.Nat.{ℕ, zero, suc, _+_, _-_, _<_, _≤_}
 use native.Mathlib.Omega.{arith}
 use native.Mathlib.Decide.{decLe}
+use Rattle.field.specs.Workings.AxisLaws.{Step, up, down}
 use Rattle.field.specs.Geometry.Shapes.{Between}
-
--- v is the next place to u, upwards or downwards.
-pub data Beside (u v : ℕ) : Type 0 where
-  up : v ≡ u + 1 → Beside u v
-  down : v + 1 ≡ u → Beside u v
-
-pub beside-back : {u v : ℕ} → Beside u v → Beside v u
-beside-back (up e) = down (sym e)
-beside-back (down e) = up (sym e)
-
-pub beside-other : {u v : ℕ} → Beside u v → ¬ (v ≡ u)
-beside-other (up e) = omega arith
-beside-other (down e) = omega arith
 
 -- What holds at b and is handed on from each place to the next, between b and t, holds at t.
 module _ (Q : ℕ → Type 0) where
-  walk-up : (b k : ℕ) → Q b → ((u v : ℕ) → Beside u v → b ≤ v → v ≤ b + k → Q u → Q v) → Q (b + k)
+  walk-up : (b k : ℕ) → Q b → ((u v : ℕ) → Step u v → b ≤ v → v ≤ b + k → Q u → Q v) → Q (b + k)
   walk-up b zero q f = subst Q (omega arith) q
   walk-up b (suc k) q f =
       f (b + k) (b + suc k) (up (omega arith)) (omega arith) (omega arith) (walk-up b k q (λ u v s l m. f u v s l (omega arith)))
 
-  walk-down : (t k : ℕ) → Q (t + k) → ((u v : ℕ) → Beside u v → t ≤ v → v ≤ t + k → Q u → Q v) → Q t
+  walk-down : (t k : ℕ) → Q (t + k) → ((u v : ℕ) → Step u v → t ≤ v → v ≤ t + k → Q u → Q v) → Q t
   walk-down t zero q f = subst Q (omega arith) q
   walk-down t (suc k) q f =
       walk-down t k (f (t + suc k) (t + k) (down (omega arith)) (omega arith) (omega arith) q) (λ u v s l m. f u v s l (omega arith))
 
-  pub walk : (b t : ℕ) → Q b → ((u v : ℕ) → Beside u v → Between b v t → Q u → Q v) → Q t
+  pub walk : (b t : ℕ) → Q b → ((u v : ℕ) → Step u v → Between b v t → Q u → Q v) → Q t
   walk b t q f = go (decLe b t)
     where
       go : Dec (b ≤ t) → Q t
@@ -103,15 +91,9 @@ module _ (P : ℕ → Type 0) (dec : (k : ℕ) → Dec (P k)) where
 -- A place that is reached from x without leaving P is in the run.
 module _ {P : ℕ → Type 0} {x : ℕ} (r : Run P x) (a : ℕ) (reached : (u : ℕ) → Between x u a → P u) where
   pub run-from : r .low ≤ a
-  run-from = go (decLe (r .low) a)
-    where
-      go : Dec (r .low ≤ a) → r .low ≤ a
-      go (yes l) = l
-      go (no l) = absurd (r .ends-low (r .low - 1) (omega arith) (reached (r .low - 1) (omega (arith, r .from-low))))
+  run-from =
+      let n : ¬ (a < r .low) = λ l. r .ends-low (r .low - 1) (omega arith) (reached (r .low - 1) (omega (arith, r .from-low))) in
+      omega arith
 
   pub run-to : a ≤ r .high
-  run-to = go (decLe a (r .high))
-    where
-      go : Dec (a ≤ r .high) → a ≤ r .high
-      go (yes l) = l
-      go (no l) = absurd (r .ends-high (reached (r .high + 1) (omega (arith, r .to-high))))
+  run-to = let n : ¬ (r .high < a) = λ l. r .ends-high (reached (r .high + 1) (omega (arith, r .to-high))) in omega arith

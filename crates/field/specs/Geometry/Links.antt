@@ -1,34 +1,10 @@
--- Neighbours and chains of them: both ways round, one after another, and with the map turned over its diagonal.
+-- Chains of neighbours: both ways round, one after another, and with the map flipped over its diagonal.
 use mathlib.Core.Path.{_≡_, refl, sym, subst₂}
-use mathlib.Core.Logic.{_⊎_, inl, inr}
 use Prim.Native.Nat.{ℕ}
 use Rattle.field.specs.Map.{On, OnMap, Near, east, west, north, south}
 use Rattle.field.specs.Labels.{Stable}
 use Rattle.field.specs.Groups.{Linked, here, step}
-use Rattle.field.specs.Geometry.Lines.{Beside, up, down}
-
--- To be a neighbour goes both ways.
-pub near-back : {x y a b : ℕ} → Near x y a b → Near a b x y
-near-back (east p q) = west (sym p) (sym q)
-near-back (west p q) = east (sym p) (sym q)
-near-back (north p q) = south (sym p) (sym q)
-near-back (south p q) = north (sym p) (sym q)
-
--- The next place of a row, and of a column, is a neighbour.
-pub near-row : {u v : ℕ} → Beside u v → (y : ℕ) → Near u y v y
-near-row (up e) y = east e refl
-near-row (down e) y = west e refl
-
-pub near-column : {u v : ℕ} → Beside u v → (x : ℕ) → Near x u x v
-near-column (up e) x = north refl e
-near-column (down e) x = south refl e
-
--- And a neighbour is the next place of the row, or of the column.
-pub near-beside : {x y a b : ℕ} → Near x y a b → (Beside x a × (b ≡ y)) ⊎ ((a ≡ x) × Beside y b)
-near-beside (east p q) = inl (up p, q)
-near-beside (west p q) = inl (down p, q)
-near-beside (north p q) = inr (p, up q)
-near-beside (south p q) = inr (p, down q)
+use Rattle.field.specs.Workings.GridLaws.{near-turned}
 
 -- What holds at (a, b) holds at (c, d), if that is the same crossing.
 pub moved : (C : ℕ → ℕ → Type 0) {a b c d : ℕ} → a ≡ c → b ≡ d → C a b → C c d
@@ -51,29 +27,29 @@ module _ {C : ℕ → ℕ → Type 0} where
 
   pub linked-sym : {x y a b : ℕ} → Linked C x y a b → Linked C a b x y
   linked-sym (here p q c) = here (sym p) (sym q) (moved C p q c)
-  linked-sym (step l n c) = linked-trans (step (here refl refl c) (near-back n) (linked-to l)) (linked-sym l)
+  linked-sym (step l n c) = linked-trans (step (here refl refl c) (near-turned n) (linked-to l)) (linked-sym l)
 
--- The map turned over its diagonal: rows become columns, so that a law of rows is a law of columns too.
-abbrev pub Turned : (ℕ → ℕ → Type 0) → ℕ → ℕ → Type 0
-Turned C x y = C y x
+-- The map flipped over its diagonal: rows become columns, so that a law of rows is a law of columns too.
+abbrev pub Flipped : (ℕ → ℕ → Type 0) → ℕ → ℕ → Type 0
+Flipped C x y = C y x
 
-pub near-turned : {x y a b : ℕ} → Near x y a b → Near y x b a
-near-turned (east p q) = north q p
-near-turned (west p q) = south q p
-near-turned (north p q) = east q p
-near-turned (south p q) = west q p
+pub near-flipped : {x y a b : ℕ} → Near x y a b → Near y x b a
+near-flipped (east p q) = north q p
+near-flipped (west p q) = south q p
+near-flipped (north p q) = east q p
+near-flipped (south p q) = west q p
 
-pub on-turned : {w h x y : ℕ} → On w h x y → On h w y x
-on-turned o = record { in-x = o .in-y; in-y = o .in-x }
+pub on-flipped : {w h x y : ℕ} → On w h x y → On h w y x
+on-flipped o = record { in-x = o .in-y; in-y = o .in-x }
 
 module _ {w h : ℕ} {C : ℕ → ℕ → Type 0} where
-  pub on-map-turned : OnMap w h C → OnMap h w (Turned C)
-  on-map-turned on x y c = on-turned (on y x c)
+  pub on-map-flipped : OnMap w h C → OnMap h w (Flipped C)
+  on-map-flipped on x y c = on-flipped (on y x c)
 
-  pub stable-turned : Stable w h C → Stable h w (Turned C)
-  stable-turned st x y a b c d o n m t p q =
-      st y x b a d c (on-turned o) (near-turned n) (near-turned m) (λ e. t (e .1, e .0)) p q
+  pub stable-flipped : Stable w h C → Stable h w (Flipped C)
+  stable-flipped st x y a b c d o n m t p q =
+      st y x b a d c (on-flipped o) (near-flipped n) (near-flipped m) (λ e. t (e .1, e .0)) p q
 
-pub linked-turned : {C : ℕ → ℕ → Type 0} {x y a b : ℕ} → Linked C x y a b → Linked (Turned C) y x b a
-linked-turned (here p q c) = here q p c
-linked-turned (step l n c) = step (linked-turned l) (near-turned n) c
+pub linked-flipped : {C : ℕ → ℕ → Type 0} {x y a b : ℕ} → Linked C x y a b → Linked (Flipped C) y x b a
+linked-flipped (here p q c) = here q p c
+linked-flipped (step l n c) = step (linked-flipped l) (near-flipped n) c

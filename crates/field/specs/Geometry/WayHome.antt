@@ -2,32 +2,30 @@
 -- the assurance keeps the next hop open; and each permitted hop keeps the place assured. So permitted hops go on until home, and as each comes
 -- one hop nearer, that takes as many as the distance.
 use mathlib.Core.Path.{_≡_, refl, sym, ap, subst, subst₃}
-use mathlib.Core.Logic.{_⊎_, inl, inr}
 use Prim.Native.Nat.{ℕ, zero, suc, _+_, _-_, _≤_}
 use native.Mathlib.Omega.{arith}
 use native.Mathlib.Decide.{ℕ-discrete}
-use Rattle.field.specs.Map.{Sides, OnMap, Apart, gap, dist}
+use Rattle.field.specs.Map.{Sides, On, OnMap, Apart, gap, dist}
 use Rattle.field.specs.Labels.{Stable, Open}
 use Rattle.field.specs.Distances.{Assured}
 use Rattle.field.specs.Hops.{Permitted, There, Taken, none, hop}
+use Rattle.field.specs.Workings.Looking.{hopTo}
+use Rattle.field.specs.Workings.AxisLaws.{Step, step-other, hop-step, hop-below}
+use Rattle.field.specs.Workings.GridLaws.{dist-none, dist-zero, dist-apart, step-row, step-column, Toward, along-row, along-column}
+use Rattle.field.specs.Workings.HopLaws.{permitted-toward, permitted-away, row-permitted, column-permitted}
 use Rattle.field.specs.Geometry.Shapes.{Between, Stage}
-use Rattle.field.specs.Geometry.Lines.{Beside, beside-other}
-use Rattle.field.specs.Geometry.Links.{near-beside, near-row, near-column, moved}
-use Rattle.field.specs.Geometry.Offsets.{gap-same, gap-none, step-between, Next, next, next-between}
+use Rattle.field.specs.Geometry.Links.{moved}
+use Rattle.field.specs.Geometry.Offsets.{hop-between}
 use Rattle.field.specs.Geometry.HomeLines.{axis-between, row-open, column-open}
 
 module _ {w h : ℕ} {C : ℕ → ℕ → Type 0} {hx hy : ℕ} where
   -- A permitted hop stays between the place and home on both axes.
   permitted-between : {x y a b : ℕ} → Permitted w h C hx hy x y a b → Between hx a x × Between hy b y
-  permitted-between {x} {y} {a} {b} k = go (near-beside (k .near))
+  permitted-between {x} {y} {a} {b} k = go (permitted-toward k)
     where
-      go : (Beside x a × (b ≡ y)) ⊎ ((a ≡ x) × Beside y b) → Between hx a x × Between hy b y
-      go (inl s) =
-          let e : gap b hy ≡ gap y hy = ap (λ (j : ℕ). gap j hy) (s .1) in
-          (step-between hx x a (s .0) (omega (arith, k .homeward)), omega arith)
-      go (inr s) =
-          let e : gap a hx ≡ gap x hx = ap (λ (i : ℕ). gap i hx) (s .0) in
-          (omega arith, step-between hy y b (s .1) (omega (arith, k .homeward)))
+      go : Toward hx hy x y a b → Between hx a x × Between hy b y
+      go (along-row n p q) = (rw p (hop-between hx x n), omega arith)
+      go (along-column n p q) = (omega arith, rw q (hop-between hy y n))
 
   -- After any permitted hop from an assured place home is assured again.
   pub hop-assured : {x y a b : ℕ} → Assured w h C hx hy x y → Permitted w h C hx hy x y a b → Assured w h C hx hy a b
@@ -72,7 +70,7 @@ module _ {w h : ℕ} {C : ℕ → ℕ → Type 0} {hx hy : ℕ} where
 
   -- At home there is no permitted hop.
   pub there-ends : {x y a b : ℕ} → There hx hy x y → ¬ Permitted w h C hx hy x y a b
-  there-ends t k = omega (arith, k .homeward, gap-same (t .0), gap-same (t .1))
+  there-ends t k = permitted-away k t
 
 -- The map is of document 01's size, so that the number that marks no distance is none.
 module _ (w h : ℕ) (sides : Sides w h) (C : ℕ → ℕ → Type 0) (on : OnMap w h C) (st : Stable w h C) (dec : (x y : ℕ) → Dec (C x y)) (hx hy : ℕ) where
@@ -82,42 +80,34 @@ module _ (w h : ℕ) (sides : Sides w h) (C : ℕ → ℕ → Type 0) (on : OnMa
 
   module _ {x y : ℕ} (s : Assured w h C hx hy x y) where
     -- The next crossing homeward along the row, and along the column, is a permitted hop if it is open.
-    hop-row : (t : Next hx x) → ¬ C (t .place) y → Some x y
-    hop-row t n = (
-      t .place,
-      y,
-      record {
-        near = near-row (t .beside) y;
-        to = record { on = record { in-x = t .bound w (s .place .on .in-x) (s .home .on .in-x); in-y = s .place .on .in-y }; free = n };
-        homeward = omega (arith, t .nearer);
-      },
-    )
+    hop-row : ¬ (x ≡ hx) → ¬ C (hopTo x hx) y → Some x y
+    hop-row p n =
+        let o : On w h (hopTo x hx) y = record { in-x = hop-below x hx w (s .place .on .in-x) (s .home .on .in-x); in-y = s .place .on .in-y } in
+        (hopTo x hx, y, row-permitted .0 (p, record { on = o; free = n }))
 
-    hop-column : (t : Next hy y) → ¬ C x (t .place) → Some x y
-    hop-column t n = (
-      x,
-      t .place,
-      record {
-        near = near-column (t .beside) x;
-        to = record { on = record { in-x = s .place .on .in-x; in-y = t .bound h (s .place .on .in-y) (s .home .on .in-y) }; free = n };
-        homeward = omega (arith, t .nearer);
-      },
-    )
+    hop-column : ¬ (y ≡ hy) → ¬ C x (hopTo y hy) → Some x y
+    hop-column q n =
+        let o : On w h x (hopTo y hy) = record { in-x = s .place .on .in-x; in-y = hop-below y hy h (s .place .on .in-y) (s .home .on .in-y) } in
+        (x, hopTo y hy, column-permitted .0 (q, record { on = o; free = n }))
 
     -- On home's row, and on its column, it is.
-    on-row : y ≡ hy → (t : Next hx x) → ¬ C (t .place) y
-    on-row q t c = row-open sides on (s .home) (s .east-west) (t .place) (next-between t) (beside-other (t .beside)) (moved C refl q c)
+    on-row : y ≡ hy → ¬ (x ≡ hx) → ¬ C (hopTo x hx) y
+    on-row q p c =
+        row-open sides on (s .home) (s .east-west) (hopTo x hx) (hop-between hx x p) (step-other (hop-step x hx p)) (moved C refl q c)
 
-    on-column : x ≡ hx → (t : Next hy y) → ¬ C x (t .place)
-    on-column p t c = column-open sides on (s .home) (s .north-south) (t .place) (next-between t) (beside-other (t .beside)) (moved C p refl c)
+    on-column : x ≡ hx → ¬ (y ≡ hy) → ¬ C x (hopTo y hy)
+    on-column p q c =
+        column-open sides on (s .home) (s .north-south) (hopTo y hy) (hop-between hy y q) (step-other (hop-step y hy q)) (moved C p refl c)
 
     -- Elsewhere one of the two is, or the place would be closed.
-    one-open : (t : Next hx x) (r : Next hy y) → Dec (C (t .place) y) → Dec (C x (r .place)) → Some x y
-    one-open t r (no n) d = hop-row t n
-    one-open t r (yes c) (no n) = hop-column r n
-    one-open t r (yes c) (yes k) =
-        let two : Apart (t .place) y x (r .place) = λ e. beside-other (t .beside) (e .0) in
-        absurd (s .place .free (st x y (t .place) y x (r .place) (s .place .on) (near-row (t .beside) y) (near-column (r .beside) x) two c k))
+    one-open : ¬ (x ≡ hx) → ¬ (y ≡ hy) → Dec (C (hopTo x hx) y) → Dec (C x (hopTo y hy)) → Some x y
+    one-open p q (no n) d = hop-row p n
+    one-open p q (yes c) (no n) = hop-column q n
+    one-open p q (yes c) (yes k) =
+        let t : Step x (hopTo x hx) = hop-step x hx p in
+        let r : Step y (hopTo y hy) = hop-step y hy q in
+        let two : Apart (hopTo x hx) y x (hopTo y hy) = λ e. step-other t (e .0) in
+        absurd (s .place .free (st x y (hopTo x hx) y x (hopTo y hy) (s .place .on) (step-row t y) (step-column r x) two c k))
 
     -- An assured place other than home has a permitted hop.
     pub home-hop : Apart x y hx hy → Some x y
@@ -125,17 +115,14 @@ module _ (w h : ℕ) (sides : Sides w h) (C : ℕ → ℕ → Type 0) (on : OnMa
       where
         go : Dec (x ≡ hx) → Dec (y ≡ hy) → Some x y
         go (yes p) (yes q) = absurd (o (p, q))
-        go (yes p) (no q) = let r : Next hy y = next hy y q in hop-column r (on-column p r)
-        go (no p) (yes q) = let t : Next hx x = next hx x p in hop-row t (on-row q t)
-        go (no p) (no q) =
-            let t : Next hx x = next hx x p in
-            let r : Next hy y = next hy y q in
-            one-open t r (dec (t .place) y) (dec x (r .place))
+        go (yes p) (no q) = hop-column q (on-column p q)
+        go (no p) (yes q) = hop-row p (on-row q p)
+        go (no p) (no q) = one-open p q (dec (hopTo x hx) y) (dec x (hopTo y hy))
 
   -- So k hops homeward lead home from an assured place that is k hops away.
   home-in : (k x y : ℕ) → Assured w h C hx hy x y → dist x y hx hy ≡ k → Taken w h C hx hy x y k hx hy
-  home-in zero x y s e = none refl (sym (gap-none x hx (omega arith))) (sym (gap-none y hy (omega arith)))
-  home-in (suc k) x y s e = go (home-hop s (λ t. omega (arith, gap-same (t .0), gap-same (t .1)))) (home-in k)
+  home-in zero x y s e = let z = dist-zero x y hx hy e in none refl (sym (z .0)) (sym (z .1))
+  home-in (suc k) x y s e = go (home-hop s (dist-apart x y hx hy (omega arith))) (home-in k)
     where
       go : Some x y → ((a b : ℕ) → Assured w h C hx hy a b → dist a b hx hy ≡ k → Taken w h C hx hy a b k hx hy) → Taken w h C hx hy x y (suc k) hx hy
       go r f =
@@ -155,6 +142,6 @@ module _ (w h : ℕ) (sides : Sides w h) (C : ℕ → ℕ → Type 0) (on : OnMa
       away o = let r : Some a b = home-hop (taken-assured s l) o in stop (r .0) (r .1) (r .2)
 
       go : Dec (a ≡ hx) → Dec (b ≡ hy) → There hx hy a b × (n ≡ dist x y hx hy)
-      go (yes p) (yes q) = ((p, q), omega (arith, taken-count l, gap-same p, gap-same q))
+      go (yes p) (yes q) = ((p, q), omega (arith, taken-count l, dist-none p q))
       go (yes p) (no q) = absurd (away (λ t. q (t .1)))
       go (no p) d = absurd (away (λ t. p (t .0)))

@@ -6,16 +6,16 @@ use mathlib.Core.List.{List}
 use mathlib.Core.Logic.{_↔_}
 use Prim.Native.Nat.{ℕ, _<_}
 use native.Mathlib.Omega.{arith}
-use native.Mathlib.Decide.{decLt}
 use lib.Dec.{ltb, eqb}
 use borrow.Author.Tests.{ltb-true, lt-ltb, le-ltb, leb-true, le-leb, eqb-true, eq-eqb, ne-eqb}
-use Rattle.field.specs.Workings.Tests.{test-dec, or-left, or-case}
 use Rattle.field.specs.Map.{On, gap, no-distance}
 use Rattle.field.specs.Labels.{Open}
 use Rattle.field.specs.Distances.{Way, eastward, southward, westward, northward, Clear, Enough, nothing-that-way, nearer, Axis, level, above, below, Assured}
+use Rattle.field.specs.Workings.Tests.{and-split, and-both, or-case, or-left, or-right, test-dec}
 use Rattle.field.specs.Workings.Sheet.{Draws, lit}
-use Rattle.field.specs.Workings.Marks.{and-split, and-both, or-right, drawn-lit, undrawn-lit}
+use Rattle.field.specs.Workings.Marks.{drawn-lit, undrawn-lit}
 use Rattle.field.specs.Workings.Looking.{clearOf, enoughOf, axisOf, openOf, assuredOf}
+use Rattle.field.specs.Workings.AxisLaws.{Order, less, same, more, order}
 use Rattle.field.specs.Workings.ClearLaws.{clear-looks}
 
 -- The one law that opens the comparison of the offset with home's distance. "Less than" is "one more is at most", in the meaning and in the
@@ -44,17 +44,17 @@ axis-below u d m p l = rw (ne-eqb p m (omega arith), le-ltb m p (omega arith))
 -- u and d are home's distances upwards and downwards.
 pub axis-looks : (D : Way → ℕ → Type 0) (up down : Way) (u d m p : ℕ) → ((n : ℕ) → D up n ↔ n ≡ u) → ((n : ℕ) → D down n ↔ n ≡ d)
     → (Axis D up down m p ↔ axisOf u d m p ≡ true)
-axis-looks D up down u d m p f g = (passes, λ e. holds e (decLt m p) (decLt p m))
+axis-looks D up down u d m p f g = (passes, λ e. holds e (order m p))
   where
     passes : Axis D up down m p → axisOf u d m p ≡ true
     passes (level e) = axis-level u d m p e
     passes (above l n k t) = axis-above u d m p l ∙ enough-looks (gap m p) u .0 (rw (f n .0 k) at t)
     passes (below l n k t) = axis-below u d m p l ∙ enough-looks (gap m p) d .0 (rw (g n .0 k) at t)
 
-    holds : axisOf u d m p ≡ true → Dec (m < p) → Dec (p < m) → Axis D up down m p
-    holds e (yes l) b = above l u (f u .1 refl) (enough-looks (gap m p) u .1 (sym (axis-above u d m p l) ∙ e))
-    holds e (no a) (yes l) = below l d (g d .1 refl) (enough-looks (gap m p) d .1 (sym (axis-below u d m p l) ∙ e))
-    holds e (no a) (no b) = level (omega arith)
+    holds : axisOf u d m p ≡ true → Order m p → Axis D up down m p
+    holds e (less l) = above l u (f u .1 refl) (enough-looks (gap m p) u .1 (sym (axis-above u d m p l) ∙ e))
+    holds e (same l) = level (sym l)
+    holds e (more l) = below l d (g d .1 refl) (enough-looks (gap m p) d .1 (sym (axis-below u d m p l) ∙ e))
 
 module _ (w h : ℕ) (C : ℕ → ℕ → Type 0) (s : List ℕ) (D : Draws w h C s) where
   pub open-looks : (x y : ℕ) → (Open w h C x y ↔ openOf s w h x y ≡ true)
@@ -66,8 +66,8 @@ module _ (w h : ℕ) (C : ℕ → ℕ → Type 0) (s : List ℕ) (D : Draws w h 
 
       holds : (ltb x w && (ltb y h && eqb (lit s w h x y) 0)) ≡ true → Open w h C x y
       holds e =
-          let a = and-split (ltb x w) (ltb y h && eqb (lit s w h x y) 0) e in
-          let b = and-split (ltb y h) (eqb (lit s w h x y) 0) (a .1) in
+          let a = and-split _ _ e in
+          let b = and-split _ _ (a .1) in
           let z : lit s w h x y ≡ 0 = eqb-true (lit s w h x y) 0 (b .1) in
           record {
             on = record { in-x = ltb-true x w (a .0); in-y = ltb-true y h (b .0) };
@@ -103,9 +103,9 @@ module _ (w h : ℕ) (C : ℕ → ℕ → Type 0) (s : List ℕ) (D : Draws w h 
 
       holds : (openOf s w h hx hy && (openOf s w h x y && (row-test && column-test))) ≡ true → Assured w h C hx hy x y
       holds e =
-          let a = and-split (openOf s w h hx hy) (openOf s w h x y && (row-test && column-test)) e in
-          let b = and-split (openOf s w h x y) (row-test && column-test) (a .1) in
-          let c = and-split row-test column-test (b .1) in
+          let a = and-split _ _ e in
+          let b = and-split _ _ (a .1) in
+          let c = and-split _ _ (b .1) in
           let o = open-looks hx hy .1 (a .0) in
           record {
             home = o;

@@ -1,25 +1,22 @@
 -- Clear distances: a crossing has one distance each way, and looking along its row or column on a sheet of the closed crossings finds it. The
 -- ways differ only in where k hops lead, so the argument is made once, over any way.
 use mathlib.Core.Path.{_≡_, refl, ap, _∙_}
-use mathlib.Core.Bool.{cond}
+use mathlib.Core.Bool.{false}
 use mathlib.Core.List.{List}
 use mathlib.Core.Logic.{_⊎_, inl, inr, _↔_}
 use Prim.Native.Nat.{ℕ, zero, suc, _+_, _-_, _<_, _≤_}
 use native.Mathlib.Omega.{arith}
 use native.Mathlib.Decide.{decLt}
 use lib.Dec.{ltb}
-use borrow.Author.Tests.{lt-ltb, le-ltb, leb-true, le-leb}
-use Rattle.field.specs.Workings.Tests.{only, cond-some}
+use borrow.Author.Tests.{ltb-true, ltb-false, leb-true, le-leb}
 use Rattle.field.specs.Map.{side, no-distance, Sides, On}
 use Rattle.field.specs.Distances.{Way, eastward, southward, westward, northward, Along, Clear, at-closed, nearest, none}
+use Rattle.field.specs.Workings.Tests.{only, cond-cases, cond-some}
 use Rattle.field.specs.Workings.Sheet.{Draws, lit}
-use Rattle.field.specs.Workings.Marks.{drawn-dec, drawn-lit, lit-drawn, undrawn-lit}
+use Rattle.field.specs.Workings.Marks.{drawn-lit, lit-drawn, drawn-looks}
 use Rattle.field.specs.Workings.Looking.{litAlong, look, clearOf}
-
--- "255 is no distance: the largest is 63."
-pub no-distance-far : side ≤ no-distance
-unfolding side no-distance
-no-distance-far = omega arith
+pub use Rattle.field.specs.Workings.GridLaws.{no-distance-far, along-short}
+use Rattle.field.specs.Workings.AxisLaws.{Order, less, same, more, order}
 
 -- A crossing has one clear distance that way.
 pub clear-one : {C : ℕ → ℕ → Type 0} {t : Way} {x y n m : ℕ} → Clear C t x y n → Clear C t x y m → n ≡ m
@@ -27,23 +24,16 @@ clear-one (at-closed c e) (at-closed c′ e′) = omega arith
 clear-one (at-closed c e) (nearest a b o l k f) = absurd (o c)
 clear-one (at-closed c e) (none o f e′) = absurd (o c)
 clear-one (nearest a b o l k f) (at-closed c e) = absurd (o c)
-clear-one {n = n} {m = m} (nearest a b o l k f) (nearest a′ b′ o′ l′ k′ f′) = go (decLt n m) (decLt m n)
+clear-one {n = n} {m = m} (nearest a b o l k f) (nearest a′ b′ o′ l′ k′ f′) = go (order n m)
   where
-    go : Dec (n < m) → Dec (m < n) → n ≡ m
-    go (yes p) d = absurd (f′ n a b p l k)
-    go (no p) (yes q) = absurd (f m a′ b′ q l′ k′)
-    go (no p) (no q) = omega arith
+    go : Order n m → n ≡ m
+    go (less p) = absurd (f′ n a b p l k)
+    go (same p) = p
+    go (more p) = absurd (f m a′ b′ p l′ k′)
 clear-one {n = n} (nearest a b o l k f) (none o′ f′ e) = absurd (f′ n a b l k)
 clear-one (none o f e) (at-closed c e′) = absurd (o c)
 clear-one {m = m} (none o f e) (nearest a b o′ l k f′) = absurd (f m a b l k)
 clear-one (none o f e) (none o′ f′ e′) = omega arith
-
--- Nothing on the map is as far from a crossing as a number that neither side passes.
-pub along-short : (t : Way) (n w h k x y a b : ℕ) → w ≤ n → h ≤ n → On w h x y → On w h a b → Along t k x y a b → k < n
-along-short eastward n w h k x y a b p q o m l = omega arith
-along-short southward n w h k x y a b p q o m l = omega arith
-along-short westward n w h k x y a b p q o m l = omega arith
-along-short northward n w h k x y a b p q o m l = omega arith
 
 -- No hops that way lead nowhere.
 along-start : (t : Way) (x y : ℕ) → Along t 0 x y x y
@@ -72,11 +62,9 @@ look-further f n k r z (lost g e) = lost (bare-from f k (k + suc n) z (λ i p q.
 pub look-looks : (n k : ℕ) (f : ℕ → ℕ) → Looked f n k (look n k f)
 unfolding look
 look-looks zero k f = lost (λ i p q. absurd (omega arith)) refl
-look-looks (suc n) k f = go (decLt 0 (f k)) (look-looks n (suc k) f)
-  where
-    go : Dec (0 < f k) → Looked f n (suc k) (look n (suc k) f) → Looked f (suc n) k (cond (ltb 0 (f k)) k (look n (suc k) f))
-    go (yes l) r = rw (lt-ltb 0 (f k) l) (found l (λ i p q. absurd (omega arith)))
-    go (no l) r = rw (le-ltb 0 (f k) (omega arith)) (look-further f n k _ (omega arith) r)
+look-looks (suc n) k f =
+    cond-cases (Looked f (suc n) k) (ltb 0 (f k)) (λ e. found (ltb-true _ _ e) (λ i p q. absurd (omega arith)))
+    (λ e. look-further f n k _ (omega (arith, ltb-false 0 (f k) e)) (look-looks n (suc k) f))
 
 -- The mark k hops that way is that of the crossing there, and what has a mark there is a crossing.
 module _ (s : List ℕ) (w h : ℕ) where
@@ -116,17 +104,16 @@ module _ (w h : ℕ) (C : ℕ → ℕ → Type 0) (s : List ℕ) (D : Draws w h 
   -- What looking finds is the clear distance, and so there is one.
   pub clear-of : (t : Way) (x y : ℕ) → On w h x y → Clear C t x y (clearOf t s w h x y)
   unfolding clearOf
-  clear-of t x y o = go (drawn-dec w h C s D x y)
+  clear-of t x y o = cond-cases (Clear C t x y) (ltb 0 (lit s w h x y)) (λ e. at-closed (drawn-looks w h C s D x y .1 e) refl) off
     where
       f : ℕ → ℕ
       f = litAlong t s w h x y
 
-      go : Dec (C x y) → Clear C t x y (cond (ltb 0 (lit s w h x y)) 0 (look (w + h) 1 f))
-      go (yes c) = rw (lt-ltb 0 (lit s w h x y) (omega (arith, drawn-lit w h C s D x y c))) (at-closed c refl)
-      go (no n) =
-          let z = undrawn-lit w h C s D x y n in
+      off : ltb 0 (lit s w h x y) ≡ false → Clear C t x y (look (w + h) 1 f)
+      off e =
+          let z : lit s w h x y ≡ 0 = omega (arith, ltb-false 0 (lit s w h x y) e) in
           let b = along-lit s w h t 0 x y x y (along-start t x y) ∙ z in
-          rw (le-ltb 0 (lit s w h x y) (omega arith)) (looked-clear t x y _ o n (look-further f (w + h) 0 _ b (look-looks (w + h) 1 f)))
+          looked-clear t x y _ o (λ c. omega (arith, drawn-lit w h C s D x y c)) (look-further f (w + h) 0 _ b (look-looks (w + h) 1 f))
 
   -- The clear distance is what looking that way finds, and nothing else.
   pub clear-looks : (t : Way) (x y n : ℕ) → On w h x y → (Clear C t x y n ↔ n ≡ clearOf t s w h x y)

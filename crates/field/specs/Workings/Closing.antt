@@ -1,19 +1,21 @@
 -- Working: the closed crossings, by sweeps over a sheet of the rocks until a sweep adds no mark; and that this draws the smallest set.
 -- Each sweep marks only what is closed; a sheet to which a sweep adds nothing is stable, and so holds every closed crossing.
-use mathlib.Core.Path.{_≡_, refl, sym, ap, _∙_}
-use mathlib.Core.Bool.{Bool, true, false, cond, _||_}
-use mathlib.Core.List.{List, [], _∷_}
+use mathlib.Core.Path.{_≡_, sym, ap}
+use mathlib.Core.Bool.{false, cond, _||_}
+use mathlib.Core.List.{List}
 use mathlib.Core.Logic.{_⊎_, inl, inr, _≢_}
 use Prim.Native.Nat.{ℕ, zero, suc, _+_, _*_, _<_, _≤_}
 use native.Mathlib.Omega.{arith}
-use native.Mathlib.Decide.{decLt}
 use lib.Dec.{ltb, leb, eqb}
-use lib.ListN.{length, getD}
-use borrow.Author.Tests.{ltb-true, leb-true, eqb-true, eqb-false, lt-ltb, le-ltb, le-leb}
+use lib.ListN.{length}
+use borrow.Author.Tests.{ltb-true, leb-true, eqb-true, eqb-false, le-leb}
 use Rattle.field.specs.Map.{On, number, at, Near, Apart}
 use Rattle.field.specs.Labels.{Closed, rock, between, Stable, RockOn, smallest}
-use Rattle.field.specs.Workings.Sheet.{Marked, Draws, bit, lit, around, sheet, sheet-length, sheet-at, Crossing, crossing, number-lt}
-use Rattle.field.specs.Workings.Marks.{bit-le, bit-true, or-split, or-right, lit-marked, marked-lit, Two, around-two, two-around}
+use Rattle.field.specs.Workings.Tests.{bit, bit-true, or-case, or-right, cond-cases}
+use Rattle.field.specs.Workings.Sheet.{Marked, Draws, lit, around, sheet, sheet-length, sheet-at, Crossing, crossing, number-lt}
+use Rattle.field.specs.Workings.Marks.{lit-marked, marked-lit, Two, around-two, two-around, drawn-lit, lit-drawn, sheet-draws}
+unfoldable pub use Rattle.field.specs.Workings.MarkCount.{marks}
+use Rattle.field.specs.Workings.MarkCount.{Among, marks-le-length, marks-mono, marks-same}
 
 -- What one sweep makes of (x, y): all crossings are judged together on the state before it, and one with two or more marked neighbours is marked.
 unfoldable pub next : List ℕ → ℕ → ℕ → ℕ → ℕ → ℕ
@@ -21,11 +23,6 @@ next s w h x y = bit (ltb 0 (lit s w h x y) || leb 2 (around s w h x y))
 
 unfoldable pub sweep : ℕ → ℕ → List ℕ → List ℕ
 sweep w h s = sheet w h (next s w h)
-
--- How many marks.
-unfoldable pub marks : List ℕ → ℕ
-marks [] = 0
-marks (v ∷ vs) = bit (ltb 0 v) + marks vs
 
 -- Sweep after sweep, at most n, until one adds no mark.
 unfoldable pub until : ℕ → ℕ → ℕ → List ℕ → List ℕ
@@ -43,11 +40,8 @@ module _ (s : List ℕ) (w h : ℕ) where
   next-sound : (x y : ℕ) → 0 < next s w h x y → Marked s w h x y ⊎ Two s w h x y
   unfolding next
   next-sound x y l =
-      go (or-split (ltb 0 (lit s w h x y)) (leb 2 (around s w h x y)) (bit-true (ltb 0 (lit s w h x y) || leb 2 (around s w h x y)) l))
-    where
-      go : (ltb 0 (lit s w h x y) ≡ true) ⊎ (leb 2 (around s w h x y) ≡ true) → Marked s w h x y ⊎ Two s w h x y
-      go (inl e) = inl (lit-marked s w h x y (ltb-true _ _ e))
-      go (inr e) = inr (around-two s w h x y (leb-true _ _ e))
+      or-case (ltb 0 (lit s w h x y)) _ (λ e. inl (lit-marked s w h x y (ltb-true _ _ e)))
+      (λ e. let k = leb-true _ (around s w h x y) e in inr (around-two s w h x y (omega arith))) (bit-true _ l)
 
   next-keeps : (x y : ℕ) → Marked s w h x y → next s w h x y ≡ 1
   unfolding next
@@ -55,7 +49,7 @@ module _ (s : List ℕ) (w h : ℕ) where
 
   next-two : (x y : ℕ) → 2 ≤ around s w h x y → next s w h x y ≡ 1
   unfolding next
-  next-two x y l = simp (or-right (ltb 0 (lit s w h x y)) (leb 2 (around s w h x y)) (le-leb _ _ l))
+  next-two x y l = ap bit (or-right (ltb 0 (lit s w h x y)) _ (le-leb _ (around s w h x y) (omega arith)))
 
   sweep-at : (x y : ℕ) → On w h x y → at (sweep w h s) w x y ≡ next s w h x y
   unfolding sweep
@@ -72,61 +66,13 @@ module _ (s : List ℕ) (w h : ℕ) where
   sweep-adds x y a b c d o n n′ t m m′ =
       record { on = o; mark = omega (arith, sweep-at x y o, next-two x y (two-around s w h x y a b c d n n′ t m m′)) }
 
--- Counting marks.
-bit-one : (v : ℕ) → 0 < v → bit (ltb 0 v) ≡ 1
-bit-one v l = simp (lt-ltb 0 v l)
-
-bit-none : (v : ℕ) → v ≡ 0 → bit (ltb 0 v) ≡ 0
-bit-none v e = simp (le-ltb 0 v (omega arith))
-
-bit-mono : (u v : ℕ) → (0 < u → 0 < v) → bit (ltb 0 u) ≤ bit (ltb 0 v)
-bit-mono u v f = go (decLt 0 u)
-  where
-    go : Dec (0 < u) → bit (ltb 0 u) ≤ bit (ltb 0 v)
-    go (yes l) = omega (arith, bit-one u l, bit-one v (f l))
-    go (no l) = omega (arith, bit-none u (omega arith))
-
-marks-le-length : (s : List ℕ) → marks s ≤ length s
-unfolding marks
-marks-le-length [] = omega arith
-marks-le-length (v ∷ vs) = omega (arith, bit-le (ltb 0 v), marks-le-length vs)
-
--- The marks of s are marks of t.
-abbrev Within : List ℕ → List ℕ → Type 0
-Within s t = (i : ℕ) → i < length s → 0 < getD s i 0 → 0 < getD t i 0
-
-marks-mono : (s t : List ℕ) → length s ≡ length t → Within s t → marks s ≤ marks t
-unfolding marks
-marks-mono [] t e f = omega arith
-marks-mono (u ∷ us) [] e f = absurd (omega arith)
-marks-mono (u ∷ us) (v ∷ vs) e f =
-    omega (arith, bit-mono u v (f 0 (omega arith)), marks-mono us vs (omega arith) (λ i l p. f (suc i) (omega arith) p))
-
--- Where the marks of s are marks of t, and t has no more of them, those of t are marks of s.
-marks-same : (s t : List ℕ) → length s ≡ length t → Within s t → marks s ≡ marks t → (i : ℕ) → i < length s → 0 < getD t i 0 → 0 < getD s i 0
-unfolding marks
-marks-same [] t e f m i l p = absurd (omega arith)
-marks-same (u ∷ us) [] e f m i l p = absurd (omega arith)
-marks-same (u ∷ us) (v ∷ vs) e f m zero l p = go (decLt 0 u)
-  where
-    go : Dec (0 < u) → 0 < u
-    go (yes k) = k
-    go (no k) = absurd (omega (arith, bit-none u (omega arith), bit-one v p, marks-mono us vs (omega arith) (λ i l p. f (suc i) (omega arith) p)))
-marks-same (u ∷ us) (v ∷ vs) e f m (suc i) l p =
-    marks-same us vs (omega arith) (λ i l p. f (suc i) (omega arith) p)
-    (omega (arith, bit-mono u v (f 0 (omega arith)), marks-mono us vs (omega arith) (λ i l p. f (suc i) (omega arith) p))) i (omega arith) p
-
-cond-cases : (P : List ℕ → Type 0) (b : Bool) (s r : List ℕ) → (b ≡ true → P s) → (b ≡ false → P r) → P (cond b s r)
-cond-cases P true s r f g = f refl
-cond-cases P false s r f g = g refl
-
 module _ (w h : ℕ) where
   sweep-length : (s : List ℕ) → length (sweep w h s) ≡ h * w
   unfolding sweep
   sweep-length s = sheet-length w h (next s w h)
 
   -- A sweep takes no mark away.
-  sweep-grows : (s : List ℕ) → length s ≡ h * w → Within s (sweep w h s)
+  sweep-grows : (s : List ℕ) → length s ≡ h * w → Among s (sweep w h s)
   sweep-grows s e i l p =
       let c : Crossing w h i = crossing w h i (omega arith) in
       let m : Marked s w h (c .x) (c .y) = record { on = c .on; mark = rw (c .is) p } in
@@ -149,7 +95,7 @@ module _ (w h : ℕ) where
   unfolding until
   until-stable zero s e l = same-stable s e (omega (arith, sweep-marks s e, marks-le-length (sweep w h s), sweep-length s))
   until-stable (suc n) s e l =
-      cond-cases (λ r. Stable w h (Marked r w h)) (eqb (marks (sweep w h s)) (marks s)) s (until w h n (sweep w h s))
+      cond-cases (λ r. Stable w h (Marked r w h)) (eqb (marks (sweep w h s)) (marks s))
       (λ t. same-stable s e (sym (eqb-true _ _ t))) (λ f. until-stable n (sweep w h s) (sweep-length s) (more f))
     where
       more : eqb (marks (sweep w h s)) (marks s) ≡ false → h * w ≤ n + marks (sweep w h s)
@@ -176,21 +122,27 @@ module _ (w h : ℕ) where
     unfolding until
     until-good zero s g = g
     until-good (suc n) s g =
-        cond-cases Good (eqb (marks (sweep w h s)) (marks s)) s (until w h n (sweep w h s)) (λ t. g)
+        cond-cases Good (eqb (marks (sweep w h s)) (marks s)) (λ t. g)
         (λ f. until-good n (sweep w h s) (sweep-good s g))
 
     module _ (rocks : List ℕ) (D : Draws w h (RockOn R w h) rocks) where
+      -- The sheet that the sweeps start from draws the rocks.
+      start-draws : Draws w h (RockOn R w h) (sheet w h (lit rocks w h))
+      start-draws =
+          sheet-draws w h (RockOn R w h) (lit rocks w h) (λ x y o. lit-drawn w h (RockOn R w h) rocks D x y)
+          (λ x y k. (k .on, omega (arith, drawn-lit w h (RockOn R w h) rocks D x y k)))
+
       start-good : Good (sheet w h (lit rocks w h))
-      start-good =
-          record {
-            sound = λ x y m. let k = D .sound x y (lit-marked rocks w h x y (omega (arith, m .mark, sheet-at w h (lit rocks w h) x y (m .on)))) in rock (k .on) (k .stone);
-            keeps = λ x y k. record { on = k .on; mark = omega (arith, sheet-at w h (lit rocks w h) x y (k .on), marked-lit rocks w h x y (D .complete x y k)) };
-          }
+      start-good = record { sound = λ x y m. let k = start-draws .sound x y m in rock (k .on) (k .stone); keeps = start-draws .complete }
 
       -- What the sweeps come to draws the closed crossings, the smallest set.
       pub closing-draws : Draws w h (Closed R w h) (closing w h rocks)
       unfolding closing
-      closing-draws = record { sound = good .sound; complete = λ x y c. smallest R w h (Marked (until w h (h * w) start) w h) (λ x y o k. good .keeps x y (record { on = o; stone = k })) stable x y c }
+      closing-draws =
+          record {
+            sound = good .sound;
+            complete = smallest R w h (Marked (until w h (h * w) start) w h) (λ x y o k. good .keeps x y (record { on = o; stone = k })) stable;
+          }
         where
           start : List ℕ
           start = sheet w h (lit rocks w h)

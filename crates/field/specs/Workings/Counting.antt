@@ -3,11 +3,12 @@ use mathlib.Core.Path.{_≡_, refl, sym, _∙_}
 use mathlib.Core.Bool.{Bool, true, false, false≢true}
 use mathlib.Core.List.{List}
 use mathlib.Core.Logic.{_↔_}
-use Prim.Native.Nat.{ℕ, zero, suc, _+_, _<_}
+use Prim.Native.Nat.{ℕ, zero, suc, _<_}
 use native.Mathlib.Omega.{arith}
 use Rattle.field.specs.Map.{On}
 use Rattle.field.specs.Labels.{sumTo, one, count, Count}
-use Rattle.field.specs.Workings.Sheet.{Draws, bit, lit}
+use Rattle.field.specs.Workings.Tests.{bit}
+use Rattle.field.specs.Workings.Sheet.{Draws, lit}
 use Rattle.field.specs.Workings.Marks.{drawn-dec, drawn-lit, undrawn-lit}
 
 -- The sum of f over the map.

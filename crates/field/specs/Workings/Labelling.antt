@@ -1,15 +1,14 @@
 -- Working: the label sheet, from a sheet of the rocks; and that it is the label sheet, the only one there is.
-use mathlib.Core.Path.{_≡_, refl, sym, _∙_}
-use mathlib.Core.Bool.{Bool, true, false, cond}
+use mathlib.Core.Path.{_≡_, sym, _∙_}
+use mathlib.Core.Bool.{cond}
 use mathlib.Core.List.{List}
 use mathlib.Core.Logic.{_↔_}
-use Prim.Native.Nat.{ℕ, _+_, _*_, _<_}
+use Prim.Native.Nat.{ℕ}
 use native.Mathlib.Omega.{arith}
 use lib.Dec.{ltb}
-use lib.ListN.{length}
-use borrow.Author.Tests.{lt-ltb, le-ltb}
 use Rattle.field.specs.Map.{On, at}
-use Rattle.field.specs.Labels.{Closed, rock, closed-on-map, Open, Shut, RockOn, Label, is-open, is-rock, is-shut, LabelSheet}
+use Rattle.field.specs.Labels.{Closed, rock, closed-on-map, RockOn, Label, is-open, is-rock, is-shut, LabelSheet}
+use Rattle.field.specs.Workings.Tests.{only}
 use Rattle.field.specs.Workings.Sheet.{Marked, Draws, lit, sheet, sheet-length, sheet-at, sheet-same}
 use Rattle.field.specs.Workings.Marks.{drawn-dec, drawn-lit, undrawn-lit}
 use Rattle.field.specs.Workings.Closing.{closing, closing-draws}
@@ -82,4 +81,4 @@ module _ (R : ℕ → ℕ → Type 0) (w h : ℕ) (rocks : List ℕ) (D : Draws 
   labelling-labels = labels-from R w h rocks (closing w h rocks) D (closing-draws w h R rocks D)
 
   pub labels-labelling : (s : List ℕ) → LabelSheet R w h s ↔ (s ≡ labelling w h rocks)
-  labels-labelling s = (λ L. label-sheet-one R w h s (labelling w h rocks) L labelling-labels, λ e. rw e labelling-labels)
+  labels-labelling = only (LabelSheet R w h) (labelling w h rocks) labelling-labels (label-sheet-one R w h)

@@ -1,39 +1,16 @@
 -- Laws of a sheet's marks: a mark as a number against the mark itself, and a crossing's marked neighbours against their number.
-use mathlib.Core.Path.{_≡_, refl, sym, subst, ap, _∙_}
-use mathlib.Core.Bool.{Bool, true, false, _&&_, _||_}
+use mathlib.Core.Path.{_≡_, refl, ap}
+use mathlib.Core.Bool.{true, _&&_}
 use mathlib.Core.List.{List}
-use mathlib.Core.Logic.{_⊎_, inl, inr}
-use Prim.Native.Nat.{ℕ, zero, suc, _+_, _*_, _-_, _<_, _≤_}
+use mathlib.Core.Logic.{_↔_}
+use Prim.Native.Nat.{ℕ, zero, suc, _+_, _<_, _≤_}
 use native.Mathlib.Omega.{arith}
-use native.Mathlib.Decide.{decLt, ℕ-discrete}
+use native.Mathlib.Decide.{decLt, map-dec}
 use lib.Dec.{ltb}
-use borrow.Author.Tests.{ltb-true, lt-ltb, le-ltb}
+use borrow.Author.Tests.{ltb-true, lt-ltb}
 use Rattle.field.specs.Map.{On, at, Near, east, west, north, south, Apart}
-use Rattle.field.specs.Workings.Sheet.{Marked, Draws, bit, lit, westOf, southOf, around, sheet, sheet-at}
-
--- Tests.
-pub bit-le : (b : Bool) → bit b ≤ 1
-bit-le true = omega arith
-bit-le false = omega arith
-
-pub bit-true : (b : Bool) → 0 < bit b → b ≡ true
-bit-true true l = refl
-bit-true false l = absurd (omega arith)
-
-pub and-split : (a b : Bool) → (a && b) ≡ true → (a ≡ true) × (b ≡ true)
-and-split true b e = (refl, e)
-and-split false b e = let z : _≡_ {A = ℕ} 0 1 = cc in absurd (omega arith)
-
-pub and-both : (a b : Bool) → a ≡ true → b ≡ true → (a && b) ≡ true
-and-both a b p q = simp (p, q)
-
-pub or-split : (a b : Bool) → (a || b) ≡ true → (a ≡ true) ⊎ (b ≡ true)
-or-split true b e = inl refl
-or-split false b e = inr e
-
-pub or-right : (a b : Bool) → b ≡ true → (a || b) ≡ true
-or-right true b e = refl
-or-right false b e = e
+use Rattle.field.specs.Workings.Sheet.{Marked, Draws, lit, westOf, southOf, around, sheet, sheet-at}
+pub use Rattle.field.specs.Workings.Tests.{bit-le, bit-true, and-split, and-both, or-split, or-right}
 
 module _ (s : List ℕ) (w h : ℕ) where
   pub lit-le : (x y : ℕ) → lit s w h x y ≤ 1
@@ -44,8 +21,8 @@ module _ (s : List ℕ) (w h : ℕ) where
   unfolding lit
   lit-marked x y l =
       let e : (ltb x w && (ltb y h && ltb 0 (at s w x y))) ≡ true = bit-true _ l in
-      let f = and-split (ltb x w) (ltb y h && ltb 0 (at s w x y)) e in
-      let g = and-split (ltb y h) (ltb 0 (at s w x y)) (f .1) in
+      let f = and-split _ _ e in
+      let g = and-split _ _ (f .1) in
       record { on = record { in-x = ltb-true _ _ (f .0); in-y = ltb-true _ _ (g .0) }; mark = ltb-true _ _ (g .1) }
 
   pub marked-lit : (x y : ℕ) → Marked s w h x y → lit s w h x y ≡ 1
@@ -53,18 +30,10 @@ module _ (s : List ℕ) (w h : ℕ) where
   marked-lit x y m = simp (lt-ltb _ _ (m .on .in-x), lt-ltb _ _ (m .on .in-y), lt-ltb _ _ (m .mark))
 
   pub unmarked-lit : (x y : ℕ) → ¬ Marked s w h x y → lit s w h x y ≡ 0
-  unmarked-lit x y n = go (decLt 0 (lit s w h x y))
-    where
-      go : Dec (0 < lit s w h x y) → lit s w h x y ≡ 0
-      go (yes l) = absurd (n (lit-marked x y l))
-      go (no l) = omega arith
+  unmarked-lit x y n = let k : ¬ (0 < lit s w h x y) = λ l. n (lit-marked x y l) in omega arith
 
   pub marked-dec : (x y : ℕ) → Dec (Marked s w h x y)
-  marked-dec x y = go (decLt 0 (lit s w h x y))
-    where
-      go : Dec (0 < lit s w h x y) → Dec (Marked s w h x y)
-      go (yes l) = yes (lit-marked x y l)
-      go (no l) = no (λ m. l (omega (arith, marked-lit x y m)))
+  marked-dec x y = map-dec (lit-marked x y) (λ m. omega (arith, marked-lit x y m)) (decLt 0 (lit s w h x y))
 
   pub west-le : (x y : ℕ) → westOf s w h x y ≤ 1
   unfolding westOf
@@ -187,11 +156,7 @@ module _ (s : List ℕ) (w h : ℕ) where
 -- What a sheet draws is decided by its marks.
 module _ (w h : ℕ) (C : ℕ → ℕ → Type 0) (s : List ℕ) (D : Draws w h C s) where
   pub drawn-dec : (x y : ℕ) → Dec (C x y)
-  drawn-dec x y = go (marked-dec s w h x y)
-    where
-      go : Dec (Marked s w h x y) → Dec (C x y)
-      go (yes m) = yes (D .sound x y m)
-      go (no n) = no (λ c. n (D .complete x y c))
+  drawn-dec x y = map-dec (D .sound x y) (D .complete x y) (marked-dec s w h x y)
 
   pub drawn-lit : (x y : ℕ) → C x y → lit s w h x y ≡ 1
   drawn-lit x y c = marked-lit s w h x y (D .complete x y c)
@@ -201,6 +166,10 @@ module _ (w h : ℕ) (C : ℕ → ℕ → Type 0) (s : List ℕ) (D : Draws w h 
 
   pub undrawn-lit : (x y : ℕ) → ¬ C x y → lit s w h x y ≡ 0
   undrawn-lit x y n = unmarked-lit s w h x y (λ m. n (D .sound x y m))
+
+  -- A mark is a test for it.
+  pub drawn-looks : (x y : ℕ) → (C x y ↔ ltb 0 (lit s w h x y) ≡ true)
+  drawn-looks x y = (λ c. lt-ltb 0 (lit s w h x y) (omega (arith, drawn-lit x y c)), λ e. lit-drawn x y (ltb-true _ _ e))
 
 -- A sheet made by a test draws the crossings that pass it.
 pub sheet-draws : (w h : ℕ) (P : ℕ → ℕ → Type 0) (f : ℕ → ℕ → ℕ) → ((x y : ℕ) → On w h x y → 0 < f x y → P x y)

@@ -1,9 +1,9 @@
 -- The region's workings agree with its meaning. Each round of reaching adds the crossings whose shortest drive has one hop more, by the first
 -- hop of a drive; a crossing reached from both ends without a detour is in the region.
-use mathlib.Core.Path.{_≡_, refl, sym, subst, ap, _∙_}
-use mathlib.Core.Bool.{Bool, true, false, _&&_, _||_, true≢false}
+use mathlib.Core.Path.{_≡_, sym, subst, ap, _∙_}
+use mathlib.Core.Bool.{Bool, true, _&&_, _||_, true≢false}
 use mathlib.Core.List.{List}
-use mathlib.Core.Logic.{_↔_, _⊎_, inl, inr}
+use mathlib.Core.Logic.{_↔_, Iff·symm}
 use Prim.Native.Nat.{ℕ, zero, suc, _+_, _<_, _≤_}
 use native.Mathlib.Omega.{arith}
 use native.Mathlib.Decide.{decLe, map-dec}
@@ -12,39 +12,20 @@ use borrow.Author.Tests.{ltb-true, lt-ltb, eqb-true, eq-eqb}
 use Rattle.field.specs.Map.{On, dist}
 use Rattle.field.specs.Labels.{Open}
 use Rattle.field.specs.Drives.{HasDrive, InRegion, InOut, is-in, is-out, RegionSheet}
-use Rattle.field.specs.Workings.Sheet.{Draws, bit, lit, around, sheet, sheet-at, sheet-length}
-use Rattle.field.specs.Workings.Marks.{bit-true, and-split, and-both, or-split, or-right, around-one, one-around, drawn-lit, lit-drawn, undrawn-lit, sheet-draws, drawn-dec}
+use Rattle.field.specs.Workings.Tests.{bit, bit-true, true-bit, and-split, and-both, or-case, or-left, or-right, test-cases, only}
+use Rattle.field.specs.Workings.Sheet.{Draws, lit, around, sheet, sheet-at, sheet-length}
+use Rattle.field.specs.Workings.Marks.{around-one, one-around, drawn-looks, sheet-draws, drawn-dec}
 use Rattle.field.specs.Workings.Looking.{openOf}
+use Rattle.field.specs.Workings.AssuredLaws
 use Rattle.field.specs.Workings.Reaching.{reachNext, reach, onWay, regionOf}
 use Rattle.field.specs.Workings.GridLaws.{dist-none, dist-zero, dist-turned, hop-le}
 use Rattle.field.specs.Workings.DriveLaws.{FirstHop, there, hop, has-drive-open, has-drive-turned, has-drive-step}
 use Rattle.field.specs.Workings.RegionLaws.{region-split, has-drive-in, region-sheet-one, region-sheet-draws}
 
--- Tests.
-true-bit : {b : Bool} → b ≡ true → 0 < bit b
-true-bit e = omega (arith, ap bit e)
-
-or-left : (a b : Bool) → a ≡ true → (a || b) ≡ true
-or-left a b e = simp e
-
 module _ (w h : ℕ) (C : ℕ → ℕ → Type 0) (c : List ℕ) (D : Draws w h C c) where
   -- The test for an open crossing.
   pub open-looks : (x y : ℕ) → (openOf c w h x y ≡ true) ↔ Open w h C x y
-  unfolding openOf
-  open-looks x y = (sound, complete)
-    where
-      sound : (ltb x w && (ltb y h && eqb (lit c w h x y) 0)) ≡ true → Open w h C x y
-      sound e =
-          let f = and-split (ltb x w) (ltb y h && eqb (lit c w h x y) 0) e in
-          let g = and-split (ltb y h) (eqb (lit c w h x y) 0) (f .1) in
-          record {
-            on = record { in-x = ltb-true _ _ (f .0); in-y = ltb-true _ _ (g .0) };
-            free = λ k. omega (arith, drawn-lit w h C c D x y k, eqb-true (lit c w h x y) 0 (g .1));
-          }
-
-      complete : Open w h C x y → (ltb x w && (ltb y h && eqb (lit c w h x y) 0)) ≡ true
-      complete o =
-          and-both _ _ (lt-ltb _ _ (o .on .in-x)) (and-both _ _ (lt-ltb _ _ (o .on .in-y)) (eq-eqb _ _ (undrawn-lit w h C c D x y (o .free))))
+  open-looks x y = Iff·symm (AssuredLaws.open-looks w h C c D x y)
 
   module _ (dx dy : ℕ) where
     -- (x, y) has a shortest drive to d, of at most n hops.
@@ -70,12 +51,13 @@ module _ (w h : ℕ) (C : ℕ → ℕ → Type 0) (c : List ℕ) (D : Draws w h 
     -- One hop more: t marks what is within n hops.
     next-sound : (n : ℕ) (t : List ℕ) → Draws w h (Within n) t → (x y : ℕ) → On w h x y → 0 < reachNext c w h dx dy t (suc n) x y → Within (suc n) x y
     unfolding reachNext
-    next-sound n t T x y o l = go (or-split _ _ (bit-true _ l))
+    next-sound n t T x y o l = or-case _ _ reached further (bit-true _ l)
       where
-        go : (ltb 0 (lit t w h x y) ≡ true) ⊎ ((openOf c w h x y && (eqb (dist x y dx dy) (suc n) && ltb 0 (around t w h x y))) ≡ true)
-            → Within (suc n) x y
-        go (inl e) = let k = lit-drawn w h (Within n) t T x y (ltb-true _ _ e) in (k .0, omega arith)
-        go (inr e) =
+        reached : ltb 0 (lit t w h x y) ≡ true → Within (suc n) x y
+        reached e = let k = drawn-looks w h (Within n) t T x y .1 e in (k .0, omega arith)
+
+        further : (openOf c w h x y && (eqb (dist x y dx dy) (suc n) && ltb 0 (around t w h x y))) ≡ true → Within (suc n) x y
+        further e =
             let f = and-split (openOf c w h x y) (eqb (dist x y dx dy) (suc n) && ltb 0 (around t w h x y)) e in
             let g = and-split (eqb (dist x y dx dy) (suc n)) (ltb 0 (around t w h x y)) (f .1) in
             let z = eqb-true (dist x y dx dy) (suc n) (g .0) in
@@ -92,7 +74,7 @@ module _ (w h : ℕ) (C : ℕ → ℕ → Type 0) (c : List ℕ) (D : Draws w h 
       where
         go : Open w h C x y → Dec (dist x y dx dy ≤ n) → FirstHop w h C x y dx dy
             → (ltb 0 (lit t w h x y) || (openOf c w h x y && (eqb (dist x y dx dy) (suc n) && ltb 0 (around t w h x y)))) ≡ true
-        go o (yes l) f = or-left _ _ (lt-ltb 0 (lit t w h x y) (omega (arith, drawn-lit w h (Within n) t T x y (r .0, l))))
+        go o (yes l) f = or-left _ _ (drawn-looks w h (Within n) t T x y .0 (r .0, l))
         go o (no l) (there o′ p q) = absurd (omega (arith, dist-none p q))
         go o (no l) (hop a b o′ near e k) =
             or-right (ltb 0 (lit t w h x y)) _
@@ -125,31 +107,23 @@ module _ (w h : ℕ) (C : ℕ → ℕ → Type 0) (c : List ℕ) (D : Draws w h 
         (record {
           on = o;
           direct = eqb-true _ _ (f .0);
-          before = has-drive-turned w h C (lit-drawn w h (Within sx sy n) _ (reach-draws sx sy n) x y (ltb-true _ _ (g .0)) .0);
-          after = lit-drawn w h (Within dx dy n) _ (reach-draws dx dy n) x y (ltb-true _ _ (g .1)) .0;
+          before = has-drive-turned w h C (drawn-looks w h (Within sx sy n) _ (reach-draws sx sy n) x y .1 (g .0) .0);
+          after = drawn-looks w h (Within dx dy n) _ (reach-draws dx dy n) x y .1 (g .1) .0;
         })
-
-    reach-lit : (ex ey x y : ℕ) → HasDrive w h C x y ex ey → dist x y ex ey ≤ dist sx sy dx dy
-        → ltb 0 (lit (reach c w h ex ey (dist sx sy dx dy)) w h x y) ≡ true
-    reach-lit ex ey x y r l =
-        let n = dist sx sy dx dy in
-        let e = drawn-lit w h (Within ex ey n) (reach c w h ex ey n) (reach-draws ex ey n) x y (r, l) in
-        lt-ltb 0 (lit (reach c w h ex ey n) w h x y) (omega (arith, e))
 
     test-complete : (x y : ℕ) → InRegion w h C sx sy dx dy x y → onTest x y ≡ true
     test-complete x y r =
+        let n = dist sx sy dx dy in
         let b = region-split w h C sx sy dx dy .0 r in
+        let f : dist x y sx sy ≤ n = omega (arith, b .direct, dist-turned x y sx sy) in
         and-both _ _ (eq-eqb _ _ (b .direct))
-        (and-both _ _
-        (reach-lit sx sy x y (has-drive-turned w h C (b .before)) (omega (arith, b .direct, dist-turned x y sx sy)))
-        (reach-lit dx dy x y (b .after) (omega (arith, b .direct))))
+        (and-both _ _ (drawn-looks w h (Within sx sy n) _ (reach-draws sx sy n) x y .0 (has-drive-turned w h C (b .before), f))
+        (drawn-looks w h (Within dx dy n) _ (reach-draws dx dy n) x y .0 (b .after, omega (arith, b .direct))))
 
     way-in-out : (x y : ℕ) → On w h x y → InOut (InRegion w h C sx sy dx dy x y) (bit (onTest x y))
-    way-in-out x y o = go (onTest x y) refl
-      where
-        go : (t : Bool) → onTest x y ≡ t → InOut (InRegion w h C sx sy dx dy x y) (bit (onTest x y))
-        go true e = is-in (ap bit e) (test-sound x y o e)
-        go false e = is-out (ap bit e) (λ r. true≢false (sym (test-complete x y r) ∙ e))
+    way-in-out x y o =
+        test-cases (onTest x y) (λ e. is-in (ap bit e) (test-sound x y o e))
+        (λ e. is-out (ap bit e) (λ r. true≢false (sym (test-complete x y r) ∙ e)))
 
     -- The sheet that the workings make is the region sheet, and no other is.
     pub region-made : RegionSheet w h C sx sy dx dy (regionOf c w h sx sy dx dy)
@@ -161,8 +135,8 @@ module _ (w h : ℕ) (C : ℕ → ℕ → Type 0) (c : List ℕ) (D : Draws w h 
         }
 
     pub region-reaches : (g : List ℕ) → (RegionSheet w h C sx sy dx dy g ↔ (g ≡ regionOf c w h sx sy dx dy))
-    region-reaches g =
-        ((λ s. region-sheet-one w h C sx sy dx dy s region-made), λ e. subst (λ (s : List ℕ). RegionSheet w h C sx sy dx dy s) (sym e) region-made)
+    region-reaches =
+        only (RegionSheet w h C sx sy dx dy) (regionOf c w h sx sy dx dy) region-made (λ s t. region-sheet-one w h C sx sy dx dy)
 
     -- Whether a crossing is in the region, and whether there is a shortest drive.
     pub in-region-dec : (x y : ℕ) → Dec (InRegion w h C sx sy dx dy x y)

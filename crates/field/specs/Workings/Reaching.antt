@@ -1,11 +1,12 @@
 -- Workings: the region and the chooser's drive. c is a sheet of the closed crossings, g one of the region.
 use mathlib.Core.Bool.{Bool, true, false, cond, _&&_, _||_}
 use mathlib.Core.List.{List, [], _∷_}
-use Prim.Native.Nat.{ℕ, zero, suc, _+_, _-_}
+use Prim.Native.Nat.{ℕ, zero, suc, _+_}
 use lib.Dec.{ltb, eqb}
 use Rattle.field.specs.Map.{number, dist}
 use Rattle.field.specs.Chooser.{drawn, top}
-use Rattle.field.specs.Workings.Sheet.{bit, lit, around, sheet}
+use Rattle.field.specs.Workings.Tests.{bit}
+use Rattle.field.specs.Workings.Sheet.{lit, around, sheet}
 use Rattle.field.specs.Workings.Looking.{hopTo, openOf}
 
 -- What one more hop makes of (x, y): t marks the crossings with a shortest drive to (dx, dy) of fewer than n hops.

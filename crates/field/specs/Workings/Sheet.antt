@@ -1,16 +1,15 @@
 -- Sheets as lists: what a sheet marks, and the workings' tools: rows made from a function, a mark as 0 or 1, a crossing's marked neighbours.
-use mathlib.Core.Path.{_≡_, refl, sym, ap, _∙_}
-use mathlib.Core.Bool.{Bool, true, false, _&&_}
+use mathlib.Core.Path.{_≡_, refl, ap, _∙_}
+use mathlib.Core.Bool.{_&&_}
 use mathlib.Core.List.{List, [], _∷_, _++_}
-use Prim.Native.Nat.{ℕ, zero, suc, _+_, _*_, _-_, _/_, _%_, _<_, _≤_}
+use Prim.Native.Nat.{ℕ, zero, suc, _+_, _*_, _/_, _%_, _<_}
 use native.Mathlib.Omega.{arith}
 use native.Mathlib.Nat.{zero-add, mul-le-mul-right, mod-lt, div-add-mod', div-lt-iff-lt-mul}
-use native.Mathlib.Decide.{decLt, ℕ-discrete}
 use lib.Dec.{ltb}
 use lib.ListN.{length, getD, length-append, List·getD-append}
 use lib.Seq.{getD-append-add, ext-getD}
-use borrow.Author.Tests.{ltb-true, lt-ltb, le-ltb}
-use Rattle.field.specs.Map.{On, number, at, Near, east, west, north, south, Apart}
+use Rattle.field.specs.Map.{On, number, at}
+pub use Rattle.field.specs.Workings.Tests.{bit}
 
 -- (x, y) is on the map, and the sheet has a mark there: something else than 0.
 pub record Marked (s : List ℕ) (w h x y : ℕ) : Type 0 where
@@ -22,16 +21,11 @@ pub record Draws (w h : ℕ) (C : ℕ → ℕ → Type 0) (s : List ℕ) : Type 
   pub sound : (x y : ℕ) → Marked s w h x y → C x y
   pub complete : (x y : ℕ) → C x y → Marked s w h x y
 
--- A test's answer as a number.
-abbrev pub bit : Bool → ℕ
-bit true = 1
-bit false = 0
-
 -- 1 where the sheet has a mark at (x, y), on the map, and else 0.
 unfoldable pub lit : List ℕ → ℕ → ℕ → ℕ → ℕ → ℕ
 lit s w h x y = bit (ltb x w && (ltb y h && ltb 0 (at s w x y)))
 
--- The same k hops west, and k hops south.
+-- The same of its neighbour to the west, and to the south: 0 at the edge.
 unfoldable pub westOf : List ℕ → ℕ → ℕ → ℕ → ℕ → ℕ
 westOf s w h zero y = 0
 westOf s w h (suc x) y = lit s w h x y

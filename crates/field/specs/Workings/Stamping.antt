@@ -1,18 +1,17 @@
 -- Working: the sheet of the rocks, from the list of the markers in use; and that it draws the crossings on which a marker stands.
-use mathlib.Core.Path.{_≡_, refl}
-use mathlib.Core.Bool.{Bool, true, false, _&&_, _||_}
+use mathlib.Core.Path.{_≡_}
+use mathlib.Core.Bool.{Bool, true, false, _&&_, _||_, false≢true}
 use mathlib.Core.List.{List, [], _∷_}
-use mathlib.Core.Logic.{_⊎_, inl, inr}
 use Prim.Native.Nat.{ℕ, zero, suc, _<_}
 use native.Mathlib.Omega.{arith}
 use lib.Dec.{eqb}
 use lib.ListN.{length, getD}
 use borrow.Author.Tests.{eqb-true, eq-eqb}
 use Rattle.field.specs.declared.Marker.{Marker}
-use Rattle.field.specs.Map.{On}
 use Rattle.field.specs.Labels.{Rock, RockOn, blank}
-use Rattle.field.specs.Workings.Sheet.{Draws, bit, sheet}
-use Rattle.field.specs.Workings.Marks.{bit-true, and-split, and-both, or-split, or-right, sheet-draws}
+use Rattle.field.specs.Workings.Tests.{bit, bit-true, true-bit, and-split, and-both, or-case, or-left, or-right}
+use Rattle.field.specs.Workings.Sheet.{Draws, sheet}
+use Rattle.field.specs.Workings.Marks.{sheet-draws}
 
 -- The marker stands on (x, y).
 unfoldable pub stands : Marker → ℕ → ℕ → Bool
@@ -29,7 +28,7 @@ stamp w h list = sheet w h (λ x y. bit (rockOf list x y))
 stands-there : (m : Marker) (x y : ℕ) → stands m x y ≡ true → (m .x ≡ x) × (m .y ≡ y)
 unfolding stands
 stands-there m x y e =
-    let f = and-split (eqb (m .x) x) (eqb (m .y) y) e in
+    let f = and-split _ _ e in
     (eqb-true _ _ (f .0), eqb-true _ _ (f .1))
 
 there-stands : (m : Marker) (x y : ℕ) → m .x ≡ x → m .y ≡ y → stands m x y ≡ true
@@ -38,15 +37,11 @@ there-stands m x y p q = and-both (eqb (m .x) x) (eqb (m .y) y) (eq-eqb _ _ p) (
 
 pub rock-of : (list : List Marker) (x y : ℕ) → rockOf list x y ≡ true → Rock list x y
 unfolding rockOf
-rock-of [] x y e = let z : _≡_ {A = ℕ} 0 1 = cc in absurd (omega arith)
-rock-of (m ∷ ms) x y e = go (or-split (stands m x y) (rockOf ms x y) e) (rock-of ms x y)
-  where
-    go : (stands m x y ≡ true) ⊎ (rockOf ms x y ≡ true) → (rockOf ms x y ≡ true → Rock ms x y) → Rock (m ∷ ms) x y
-    go (inl t) f = record { slot = 0; in-use = omega arith; x-is = stands-there m x y t .0; y-is = stands-there m x y t .1 }
-    go (inr t) f = let r = f t in record { slot = suc (r .slot); in-use = omega (arith, r .in-use); x-is = r .x-is; y-is = r .y-is }
-
-or-left : (a b : Bool) → a ≡ true → (a || b) ≡ true
-or-left a b e = simp e
+rock-of [] x y e = absurd (false≢true e)
+rock-of (m ∷ ms) x y e =
+    or-case (stands m x y) (rockOf ms x y)
+    (λ t. record { slot = 0; in-use = omega arith; x-is = stands-there m x y t .0; y-is = stands-there m x y t .1 })
+    (λ t. let r = rock-of ms x y t in record { slot = suc (r .slot); in-use = omega (arith, r .in-use); x-is = r .x-is; y-is = r .y-is }) e
 
 rock-slot : (list : List Marker) (x y k : ℕ) → k < length list → getD list k blank .x ≡ x → getD list k blank .y ≡ y → rockOf list x y ≡ true
 unfolding rockOf
@@ -62,7 +57,4 @@ pub stamp-draws : (w h : ℕ) (list : List Marker) → Draws w h (RockOn (Rock l
 unfolding stamp
 stamp-draws w h list =
     sheet-draws w h (RockOn (Rock list) w h) (λ x y. bit (rockOf list x y))
-    (λ x y o l. record { on = o; stone = rock-of list x y (bit-true _ l) }) (λ x y r. (r .on, lit-one x y r))
-  where
-    lit-one : (x y : ℕ) → RockOn (Rock list) w h x y → 0 < bit (rockOf list x y)
-    lit-one x y r = rw (of-rock list x y (r .stone)) (omega arith)
+    (λ x y o l. record { on = o; stone = rock-of list x y (bit-true _ l) }) (λ x y r. (r .on, true-bit (of-rock list x y (r .stone))))

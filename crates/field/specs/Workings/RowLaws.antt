@@ -1,0 +1,179 @@
+-- A row of the table of settled examples that passes its test holds: each test is made of workings, and each working agrees with its meaning.
+use mathlib.Core.Path.{_≡_, sym, subst, _∙_}
+use mathlib.Core.Bool.{Bool, true, _||_, false≢true}
+use mathlib.Core.List.{List}
+use mathlib.Core.Logic.{_↔_}
+use Prim.Native.Nat.{ℕ, suc}
+use native.Mathlib.Omega.{arith}
+use lib.Dec.{ltb, eqb}
+use lib.ListN.{length}
+use borrow.Author.Tests.{ltb-true, eqb-true, le-ltb, not-true}
+use Rattle.field.specs.Map.{dist, no-distance}
+use Rattle.field.specs.Labels.{RockOn, closed-on-map, closed-stable, Open, Shut, Count}
+use Rattle.field.specs.Groups.{Groups}
+use Rattle.field.specs.Drives.{HasDrive, InRegion, RegionSheet}
+use Rattle.field.specs.Table.{Row, labels, group, no-distances, distances, assured, not-assured, refused-9, drive, region, outside, driven, Holds, Place, wide, high, markersOn, RocksOn, ClosedBy, picture}
+use Rattle.field.specs.Workings.Tests.{and-split, test-dec}
+use Rattle.field.specs.Workings.Sheet.{Draws, lit}
+use Rattle.field.specs.Workings.Marks.{drawn-lit, drawn-looks}
+use Rattle.field.specs.Workings.Closing.{closing-draws}
+use Rattle.field.specs.Workings.Stamping.{stamp-draws}
+use Rattle.field.specs.Workings.Labelling.{labels-labelling}
+use Rattle.field.specs.Workings.Counting.{count-marks, count-tests}
+use Rattle.field.specs.Workings.Corners.{every-two, groups-look, rectangle-looks}
+use Rattle.field.specs.Workings.Looking.{openOf}
+use Rattle.field.specs.Workings.ClearLaws.{clear-looks}
+use Rattle.field.specs.Workings.DistanceLaws.{distances-look}
+use Rattle.field.specs.Workings.AssuredLaws.{open-looks, open-dec, assured-looks}
+use Rattle.field.specs.Workings.RegionLaws.{has-drive-in, region-sheet-draws}
+use Rattle.field.specs.Workings.ReachLaws.{region-made}
+use Rattle.field.specs.Workings.ChoosingLaws.{driven-looks}
+use Rattle.field.specs.Workings.RowTests.{same-is, rockSheet, closedSheet, regionSheet, alone, alone-looks, no-distance-at, none-each, passes}
+
+module _ (rocks : List Place) where
+  -- R tells the row's rocks and C its closed crossings; r and c are their sheets.
+  abbrev R : ℕ → ℕ → Type 0
+  R = RocksOn rocks
+
+  abbrev C : ℕ → ℕ → Type 0
+  C = ClosedBy rocks
+
+  abbrev r : List ℕ
+  r = rockSheet rocks
+
+  abbrev c : List ℕ
+  c = closedSheet rocks
+
+  rocks-draw : Draws wide high (RockOn R wide high) r
+  unfolding rockSheet
+  rocks-draw = stamp-draws wide high (markersOn rocks)
+
+  closed-draw : Draws wide high C c
+  unfolding closedSheet
+  closed-draw = closing-draws wide high R r rocks-draw
+
+  -- Shut is closed and no rock.
+  shut-looks : (x y : ℕ) → (Shut R wide high x y ↔ alone r c x y ≡ true)
+  shut-looks x y = (
+    λ t. alone-looks rocks-draw closed-draw x y .0 (t .closed, λ k. t .bare (k .stone)),
+    λ e.
+        let k = alone-looks rocks-draw closed-draw x y .1 e in
+        record { closed = k .0; bare = λ m. k .1 (record { on = closed-on-map R wide high x y (k .0); stone = m }) },
+  )
+
+  labels-hold : (shut : List Place) (groups opens : ℕ) → passes (labels rocks shut groups opens) ≡ true → Holds (labels rocks shut groups opens)
+  unfolding passes
+  labels-hold shut groups opens e =
+      let f = and-split _ _ e in
+      let g = and-split _ _ (f .0) in
+      let k = and-split _ _ (f .1) in
+      let m = and-split _ _ (k .0) in (
+        labels-labelling R wide high r rocks-draw (picture rocks shut) .1 (same-is _ _ (g .0)),
+        count-marks wide high (RockOn R wide high) r rocks-draw (length rocks) .1 (eqb-true _ _ (g .1)),
+        subst (Count wide high (Shut R wide high)) (sym (eqb-true _ _ (m .0)))
+            (count-tests wide high (Shut R wide high) (alone r c) (λ x y o. shut-looks x y) (λ x y. test-dec (alone r c x y) (shut-looks x y))),
+        subst (Groups wide high C) (sym (eqb-true _ _ (m .1)))
+            (groups-look wide high C c closed-draw (closed-on-map R wide high) (closed-stable R wide high)),
+        subst (Count wide high (Open wide high C)) (sym (eqb-true _ _ (k .1)))
+            (count-tests wide high (Open wide high C) (openOf c wide high) (λ x y o. open-looks wide high C c closed-draw x y)
+            (open-dec wide high C c closed-draw)),
+      )
+
+  group-holds : (x₀ x₁ y₀ y₁ : ℕ) → passes (group rocks x₀ x₁ y₀ y₁) ≡ true → Holds (group rocks x₀ x₁ y₀ y₁)
+  unfolding passes
+  group-holds = rectangle-looks wide high C c closed-draw (closed-on-map R wide high) (closed-stable R wide high)
+
+  no-distances-hold : passes (no-distances rocks) ≡ true → Holds (no-distances rocks)
+  unfolding passes
+  no-distances-hold e t x y o =
+      clear-looks wide high C c closed-draw t x y no-distance o .1
+      (sym (none-each c x y (every-two high wide (no-distance-at c) e x y (o .in-x) (o .in-y)) t))
+
+  distances-hold : (x y : ℕ) (four : List ℕ) → passes (distances rocks x y four) ≡ true → Holds (distances rocks x y four)
+  unfolding passes
+  distances-hold x y four e =
+      let f = and-split _ _ e in
+      let g = and-split _ _ (f .0) in
+      distances-look wide high C c closed-draw x y four (record { in-x = ltb-true _ _ (g .0); in-y = ltb-true _ _ (g .1) }) .1
+      (same-is _ _ (f .1))
+
+  assured-holds : (hx hy x y : ℕ) → passes (assured rocks hx hy x y) ≡ true → Holds (assured rocks hx hy x y)
+  unfolding passes
+  assured-holds hx hy x y = assured-looks wide high C c closed-draw hx hy x y .1
+
+  not-assured-holds : (hx hy x y : ℕ) → passes (not-assured rocks hx hy x y) ≡ true → Holds (not-assured rocks hx hy x y)
+  unfolding passes
+  not-assured-holds hx hy x y e a = false≢true (sym (not-true _ e) ∙ assured-looks wide high C c closed-draw hx hy x y .0 a)
+
+  -- The rows on drives. In tells the region, and g is its sheet.
+  module _ (sx sy dx dy : ℕ) where
+    abbrev In : ℕ → ℕ → Type 0
+    In = InRegion wide high C sx sy dx dy
+
+    abbrev g : List ℕ
+    g = regionSheet rocks sx sy dx dy
+
+    made : RegionSheet wide high C sx sy dx dy g
+    unfolding regionSheet
+    made = region-made wide high C c closed-draw sx sy dx dy
+
+    region-draws : Draws wide high In g
+    region-draws = region-sheet-draws wide high C sx sy dx dy made
+
+    some : ltb 0 (lit g wide high sx sy) ≡ true → HasDrive wide high C sx sy dx dy
+    some e = has-drive-in wide high C sx sy dx dy .1 (drawn-looks wide high In g region-draws sx sy .1 e)
+
+    out : (x y : ℕ) → eqb (lit g wide high x y) 0 ≡ true → ¬ In x y
+    out x y e k = omega (arith, eqb-true (lit g wide high x y) 0 e, drawn-lit wide high In g region-draws x y k)
+
+    refused-9-holds : passes (refused-9 rocks sx sy dx dy) ≡ true → Holds (refused-9 rocks sx sy dx dy)
+    unfolding passes
+    refused-9-holds e =
+        let f = and-split _ _ e in
+        let k = and-split _ _ (f .0) in (
+          open-looks wide high C c closed-draw sx sy .1 (k .0),
+          open-looks wide high C c closed-draw dx dy .1 (k .1),
+          λ v. out sx sy (f .1) (has-drive-in wide high C sx sy dx dy .0 v),
+        )
+
+    drive-holds : (n : ℕ) → passes (drive rocks sx sy dx dy n) ≡ true → Holds (drive rocks sx sy dx dy n)
+    unfolding passes
+    drive-holds n e =
+        let f = and-split _ _ e in
+        let k = some (f .0) in
+        (k .route, k .shortest, omega (arith, k .shortest .hops, eqb-true (dist sx sy dx dy) n (f .1)))
+
+    region-holds : (n : ℕ) → passes (region rocks sx sy dx dy n) ≡ true → Holds (region rocks sx sy dx dy n)
+    unfolding passes
+    region-holds n e = count-marks wide high In g region-draws n .1 (eqb-true _ _ e)
+
+    outside-holds : (x₀ x₁ y₀ y₁ : ℕ) → passes (outside rocks sx sy dx dy x₀ x₁ y₀ y₁) ≡ true → Holds (outside rocks sx sy dx dy x₀ x₁ y₀ y₁)
+    unfolding passes
+    outside-holds x₀ x₁ y₀ y₁ e a b i = out a b (simp (le-ltb a x₀ (i .from-west), le-ltb b y₀ (i .from-south)) at here)
+      where
+        f : ℕ → ℕ → Bool
+        f y x = (ltb x x₀ || ltb y y₀) || eqb (lit g wide high x y) 0
+
+        here : ((ltb a x₀ || ltb b y₀) || eqb (lit g wide high a b) 0) ≡ true
+        here = every-two (suc y₁) (suc x₁) f e a b (omega (arith, i .to-east)) (omega (arith, i .to-north))
+
+    driven-holds : (z : ℕ) (route : List ℕ) (z′ : ℕ) → passes (driven rocks sx sy dx dy z route z′) ≡ true → Holds (driven rocks sx sy dx dy z route z′)
+    unfolding passes
+    driven-holds z route z′ e =
+        let f = and-split _ _ e in
+        let k = and-split _ _ (f .1) in
+        driven-looks wide high C sx sy dx dy g made z z′ route (some (f .0)) .1 (same-is _ _ (k .0), eqb-true _ _ (k .1))
+
+-- A row that passes its test holds.
+pub passes-holds : (r : Row) → passes r ≡ true → Holds r
+passes-holds (labels rocks shut groups opens) = labels-hold rocks shut groups opens
+passes-holds (group rocks x₀ x₁ y₀ y₁) = group-holds rocks x₀ x₁ y₀ y₁
+passes-holds (no-distances rocks) = no-distances-hold rocks
+passes-holds (distances rocks x y four) = distances-hold rocks x y four
+passes-holds (assured rocks hx hy x y) = assured-holds rocks hx hy x y
+passes-holds (not-assured rocks hx hy x y) = not-assured-holds rocks hx hy x y
+passes-holds (refused-9 rocks sx sy dx dy) = refused-9-holds rocks sx sy dx dy
+passes-holds (drive rocks sx sy dx dy n) = drive-holds rocks sx sy dx dy n
+passes-holds (region rocks sx sy dx dy n) = region-holds rocks sx sy dx dy n
+passes-holds (outside rocks sx sy dx dy x₀ x₁ y₀ y₁) = outside-holds rocks sx sy dx dy x₀ x₁ y₀ y₁
+passes-holds (driven rocks sx sy dx dy z route z′) = driven-holds rocks sx sy dx dy z route z′

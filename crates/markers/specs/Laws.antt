@@ -1,0 +1,20 @@
+-- Laws of the marker list. Those of lists of markers speak of no slice: they hold however the list is lent.
+--     Rising                 ids that rise stand in one slot each
+--     Moves                  where each marker goes
+--     Formed, Reached        entering and clearing keep a list well formed, and so does every sequence of them: entered-formed, cleared-formed,
+--                            reached-formed
+--     Entering, Clearing     there is one list after: entered-some, entered-one, cleared-some, cleared-one; Making has what both make it with
+--     Times                  every other marker stands there as often as before: entered-other, entered-itself, cleared-other, cleared-itself
+--     Rocks                  which crossings are rocks after: rock-enter, rock-clear, rock-clear-other
+--     Slices, Promises       the same for three parallel slices: slots-enter, slots-clear, enters-one, clears-one, stamped-one
+pub mod Rising
+pub mod Moves
+pub mod Formed
+pub mod Reached
+pub mod Making
+pub mod Entering
+pub mod Clearing
+pub mod Times
+pub mod Rocks
+pub mod Slices
+pub mod Promises
