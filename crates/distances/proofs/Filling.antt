@@ -12,9 +12,9 @@ use Rattle.field.specs.Map.{On, number, at}
 use Rattle.field.specs.Distances.{Way, Clear, DistanceSheet}
 use Rattle.field.specs.Workings.Sheet.{Marked, number-lt}
 use Rattle.field.specs.Workings.GridLaws.{number-one}
+use Rattle.field.specs.Geometry.Links.{moved}
 use Rattle.distances.specs.Promise.{Asked}
 use Rattle.distances.specs.Running.{Ready, ReadyAfter, Neighbour, Put, Gains, Row}
-use Rattle.distances.proofs.Ways.{moved}
 use Rattle.distances.proofs.Ahead.{Ahead, ahead-neighbour, onward-clear}
 
 -- A sheet that is written on can be read as well.
@@ -80,7 +80,7 @@ module _ {w h : ℕ} {s : List ℕ} {t : Way} where
     other-is a b n = ap (λ (l : List ℕ). at l w a b) (p .written) ∙ getD-set-other u (number w x y) (number w a b) r 0 n
 
     gained : (a b : ℕ) → (x ≡ a) × (y ≡ b) → Clear (Marked s w h) t a b (at v w a b)
-    gained a b e = moved (λ a b. Clear (Marked s w h) t a b (at v w a b)) e (subst (Clear (Marked s w h) t x y) (sym here-is) put-clear)
+    gained a b e = moved (λ a b. Clear (Marked s w h) t a b (at v w a b)) (e .0) (e .1) (subst (Clear (Marked s w h) t x y) (sym here-is) put-clear)
 
     kept : (a b : ℕ) → On w h a b → Clear (Marked s w h) t a b (at u w a b) → Dec (number w a b ≡ number w x y)
         → Clear (Marked s w h) t a b (at v w a b)

@@ -9,7 +9,7 @@ use native.Mathlib.Decide.{decLt}
 use Rattle.field.specs.Map.{On, at, no-distance}
 use Rattle.field.specs.Distances.{Way, Along, Clear, at-closed, nearest, none}
 use Rattle.field.specs.Workings.Sheet.{Marked}
-use Rattle.distances.proofs.Ways.{along-one, along-start, moved}
+use Rattle.distances.proofs.Ways.{along-same, along-start}
 
 -- Nothing is marked on the first k hops that way.
 pub record Bare (s : List ℕ) (w h : ℕ) (t : Way) (x y k : ℕ) : Type 0 where
@@ -27,7 +27,7 @@ module _ {s : List ℕ} {w h : ℕ} {t : Way} {x y : ℕ} where
       go : (k a b : ℕ) → k < n → Along t k x y a b → Dec (0 < k) → ¬ Marked s w h a b
       go k a b p l (yes q) = f k a b q p l
       go k a b p l (no q) =
-          λ m. let o = moved (Marked s w h) (along-one t k 0 x y a b x y (omega arith) l (along-start t 0 x y refl)) m in omega (arith, o .mark)
+          λ m. let o = along-same (Marked s w h) t k 0 x y a b x y (omega arith) l (along-start t 0 x y refl) m in omega (arith, o .mark)
 
   -- The next hop leads to (a, b), where v stands.
   module _ {k v : ℕ} (f : Bare s w h t x y k) (a b : ℕ) (l : Along t k x y a b) (e : v ≡ at s w a b) where
@@ -38,7 +38,7 @@ module _ {s : List ℕ} {w h : ℕ} {t : Way} {x y : ℕ} where
         go : (i c d : ℕ) → i < k + 1 → Along t i x y c d → Dec (i < k) → ¬ Marked s w h c d
         go i c d p m (yes q) = f .free i c d q m
         go i c d p m (no q) =
-            λ n. let o = moved (Marked s w h) (along-one t i k x y c d a b (omega arith) m l) n in omega (arith, o .mark)
+            λ n. let o = along-same (Marked s w h) t i k x y c d a b (omega arith) m l n in omega (arith, o .mark)
 
     -- It is a mark: the hops so far are the distance.
     pub bare-met : On w h a b → v ≢ 0 → Clear (Marked s w h) t x y k
@@ -46,7 +46,7 @@ module _ {s : List ℕ} {w h : ℕ} {t : Way} {x y : ℕ} where
       where
         go : Marked s w h a b → Dec (0 < k) → Clear (Marked s w h) t x y k
         go m (yes p) = nearest a b (f .free 0 x y p (along-start t 0 x y refl)) l m (f .free)
-        go m (no p) = at-closed (moved (Marked s w h) (along-one t k 0 x y a b x y (omega arith) l (along-start t 0 x y refl)) m) (omega arith)
+        go m (no p) = at-closed (along-same (Marked s w h) t k 0 x y a b x y (omega arith) l (along-start t 0 x y refl) m) (omega arith)
 
   -- The next hop and all after it lead off the map: there is no distance.
   pub bare-past : {k : ℕ} → Bare s w h t x y k → ((i a b : ℕ) → k ≤ i → Along t i x y a b → ¬ On w h a b) → Clear (Marked s w h) t x y no-distance

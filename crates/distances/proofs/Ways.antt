@@ -1,15 +1,20 @@
 -- Hops one way: how many lead where. Only these laws look at the four ways one by one; what rests on them holds over any way.
-use mathlib.Core.Path.{_≡_, subst₂}
+use mathlib.Core.Path.{_≡_}
 use Prim.Native.Nat.{ℕ, _+_, _-_, _<_}
 use native.Mathlib.Omega.{arith}
+use Rattle.field.specs.Geometry.Links.{moved}
 use Rattle.field.specs.Distances.{Way, eastward, southward, westward, northward, Along}
 
 -- As many hops that way lead to one crossing.
-pub along-one : (t : Way) (k j x y a b c d : ℕ) → k ≡ j → Along t k x y a b → Along t j x y c d → (a ≡ c) × (b ≡ d)
+along-one : (t : Way) (k j x y a b c d : ℕ) → k ≡ j → Along t k x y a b → Along t j x y c d → (a ≡ c) × (b ≡ d)
 along-one eastward k j x y a b c d e l m = omega arith
 along-one southward k j x y a b c d e l m = omega arith
 along-one westward k j x y a b c d e l m = omega arith
 along-one northward k j x y a b c d e l m = omega arith
+
+-- So what holds of the crossing there holds of it however it was reached.
+pub along-same : (C : ℕ → ℕ → Type 0) (t : Way) (k j x y a b c d : ℕ) → k ≡ j → Along t k x y a b → Along t j x y c d → C a b → C c d
+along-same C t k j x y a b c d e l m p = let q = along-one t k j x y a b c d e l m in moved C (q .0) (q .1) p
 
 -- No hop at all leads to the crossing itself.
 pub along-start : (t : Way) (k x y : ℕ) → k ≡ 0 → Along t k x y x y
@@ -31,7 +36,3 @@ along-rest eastward k x y a b c d p l m = omega arith
 along-rest southward k x y a b c d p l m = omega arith
 along-rest westward k x y a b c d p l m = omega arith
 along-rest northward k x y a b c d p l m = omega arith
-
--- What holds of a crossing holds of it under other names for its coordinates.
-pub moved : (C : ℕ → ℕ → Type 0) {a b c d : ℕ} → (a ≡ c) × (b ≡ d) → C a b → C c d
-moved C e k = subst₂ C (e .0) (e .1) k

@@ -12,17 +12,9 @@ use Rattle.field.specs.Map.{On, at}
 use Rattle.field.specs.Workings.Sheet.{lit}
 use Rattle.field.specs.Workings.Marks.{marked-lit, unmarked-lit}
 use Rattle.field.specs.Workings.Looking.{openOf, hopTo, eastWestOf, northSouthOf}
-use Rattle.field.specs.Workings.HopLaws.{hop-up, hop-down}
+use Rattle.field.specs.Workings.AxisLaws.{hop-below}
 use Rattle.distances.specs.Promise.{Asked}
 use Rattle.hops.specs.Asking.{AskedRow, AskedColumn}
-
--- Below n with p and d, below n after a hop.
-pub hop-below : {n p d r : ℕ} → p < n → d < n → r ≡ hopTo p d → r < n
-hop-below {n} {p} {d} {r} l m e = go (decLt p d)
-  where
-    go : Dec (p < d) → r < n
-    go (yes q) = omega (arith, hop-up p d q)
-    go (no q) = omega (arith, hop-down p d (omega arith))
 
 -- On the map the test for an open crossing is that it has no mark.
 pub open-unmarked : (s : List ℕ) (w h x y : ℕ) → On w h x y → openOf s w h x y ≡ eqb (at s w x y) 0
@@ -39,10 +31,12 @@ open-unmarked s w h x y o = rw (lt-ltb x w (o .in-x), lt-ltb y h (o .in-y)) (go 
 
 -- The hop along the row leads to a crossing of the map, and so does the one along the column.
 pub row-asked : {w h hx x y a : ℕ} {s : List ℕ} → AskedRow w h s hx x y → a ≡ hopTo x hx → Asked w h s a y
-row-asked q e = record { fits = q .fits; on = record { in-x = hop-below (q .on .in-x) (q .home) e; in-y = q .on .in-y } }
+row-asked {w} {h} {hx} {x} q e =
+    record { fits = q .fits; on = record { in-x = omega (arith, hop-below x hx w (q .on .in-x) (q .home)); in-y = q .on .in-y } }
 
 pub column-asked : {w h hy x y b : ℕ} {s : List ℕ} → AskedColumn w h s hy x y → b ≡ hopTo y hy → Asked w h s x b
-column-asked q e = record { fits = q .fits; on = record { in-x = q .on .in-x; in-y = hop-below (q .on .in-y) (q .home) e } }
+column-asked {w} {h} {hy} {x} {y} q e =
+    record { fits = q .fits; on = record { in-x = q .on .in-x; in-y = omega (arith, hop-below y hy h (q .on .in-y) (q .home)) } }
 
 module _ {w h : ℕ} {s : List ℕ} where
   -- The row's test: in home's column, and in another.

@@ -1,7 +1,7 @@
 -- `toward` meets its contract: up where d lies above p, and else down.
 use mathlib.Core.Path.{sym}
 use borrow.Author.Needs.{needs}
-use Rattle.field.specs.Workings.HopLaws.{hop-up, hop-down}
+use Rattle.field.specs.Workings.AxisLaws.{hop-up, hop-down}
 use Rattle.hops.proofs.toward.Statement.{statement}
 use Rattle.hops.proofs.toward.Tie as tie
 
