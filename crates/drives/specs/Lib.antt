@@ -1,0 +1,2 @@
+-- What the code for regions and drives promises.
+pub mod Promise

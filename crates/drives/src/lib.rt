@@ -1,0 +1,65 @@
+// The region of shortest drives, and the chooser's drive, over a sheet that marks the closed crossings.
+ghost use mathlib.Core.Path.{_≡_};
+ghost use Prim.Native.Nat.{ℕ, _+_, _*_, _%_, _<_, _≤_};
+ghost use lib.ListN.{length, take};
+ghost use Rattle.field.specs.Chooser.{drawn};
+ghost use Rattle.drives.specs.Promise.{Asked, Regioned, Makes};
+
+// What asking for the region finds: an end closed (8), no shortest drive (9), or some.
+pub enum Found {
+    EndClosed,
+    Nowhere,
+    Somewhere,
+}
+
+// What asking for a drive makes: nothing, an end being closed (8), there being no shortest drive (9) or the route too short (10); or so many
+// crossings at the route's front, and the state after it.
+pub enum Made {
+    Closed,
+    NoDrive,
+    Short,
+    Filled(usize, u32),
+}
+
+// The region from (sx, sy) to (dx, dy) into a lent sheet.
+pub fn region(
+    s: &[u8],
+    w: usize,
+    h: usize,
+    sx: usize,
+    sy: usize,
+    dx: usize,
+    dy: usize,
+    g: &mut [u8],
+) -> Found
+    requires { ⌜ Asked w h (now s) (now g) sx sy dx dy ⌝ }
+    ensures { λ r. ⌜ Regioned w h (now (s .entry)) sx sy dx dy (now (g .entry)) (now (g .exit)) r ⌝ }
+{
+    Found::EndClosed
+}
+
+// The generator's next state.
+pub fn draw(z: u32) -> u32
+    ensures { λ r. ⌜ r ≡ drawn z ⌝ }
+{
+    z
+}
+
+// The chooser's drive from (sx, sy) to (dx, dy) in state z, into the front of a lent route.
+pub fn fill(
+    s: &[u8],
+    w: usize,
+    h: usize,
+    sx: usize,
+    sy: usize,
+    dx: usize,
+    dy: usize,
+    z: u32,
+    g: &mut [u8],
+    route: &mut [u16],
+) -> Made
+    requires { ⌜ Asked w h (now s) (now g) sx sy dx dy ⌝ }
+    ensures { λ r. ⌜ Makes w h (now (s .entry)) sx sy dx dy z (now (g .entry)) (now (g .exit)) (now (route .entry)) (now (route .exit)) r ⌝ }
+{
+    Made::Closed
+}
