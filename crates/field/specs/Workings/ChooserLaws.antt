@@ -1,6 +1,6 @@
 -- Laws of the chooser. The candidates at a crossing are at most two, the hop along its row and the hop along its column; so a choice, and with
 -- it the whole drive and the state after it, is fixed by the crossing and the state. Inside the region there is always a candidate.
-use mathlib.Core.Path.{_≡_, refl, sym, subst, ap, _∙_}
+use mathlib.Core.Path.{_≡_, refl, sym, subst₃, ap, _∙_}
 use mathlib.Core.List.{List, _∷_}
 use mathlib.Core.Logic.{_⊎_, inl, inr}
 use Prim.Native.Nat.{ℕ, _<_}
@@ -60,10 +60,9 @@ module _ (w h : ℕ) (C : ℕ → ℕ → Type 0) (sx sy dx dy : ℕ) where
   chosen-off : {x y z a b z′ : ℕ} → x ≡ dx → y ≡ dy → ¬ Chosen w h C sx sy dx dy x y z a b z′
   chosen-off p q c = omega (arith, dist-none p q, chosen-candidate c .nearer)
 
-  driven-at : {a b c d z z′ z″ : ℕ} {l : List ℕ} → (a ≡ c) × (b ≡ d) × (z ≡ z′) → Driven w h C sx sy dx dy c d z′ l z″ → Driven w h C sx sy dx dy a b z l z″
-  driven-at {a} {b} {c} {d} {z} {z′} {z″} {l} e v =
-      subst (λ (i : ℕ). Driven w h C sx sy dx dy i b z l z″) (sym (e .0))
-      (subst (λ (j : ℕ). Driven w h C sx sy dx dy c j z l z″) (sym (e .1)) (subst (λ (k : ℕ). Driven w h C sx sy dx dy c d k l z″) (sym (e .2)) v))
+  driven-at : {a b c d z z′ z″ : ℕ} {l : List ℕ} → (a ≡ c) × (b ≡ d) × (z ≡ z′) → Driven w h C sx sy dx dy c d z′ l z″
+      → Driven w h C sx sy dx dy a b z l z″
+  driven-at {z″} {l} e v = subst₃ (λ (i j k : ℕ). Driven w h C sx sy dx dy i j k l z″) (sym (e .0)) (sym (e .1)) (sym (e .2)) v
 
   pub driven-one : {x y z z′ z″ : ℕ} {l m : List ℕ} → Driven w h C sx sy dx dy x y z l z′ → Driven w h C sx sy dx dy x y z m z″ → (l ≡ m) × (z′ ≡ z″)
   driven-one (arrived p q e f) (arrived p′ q′ e′ f′) = (e ∙ sym e′, f ∙ sym f′)

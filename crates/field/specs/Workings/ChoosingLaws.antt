@@ -1,6 +1,6 @@
 -- The chooser's workings agree with its meaning. Two tests tell whether the hop along the row and the hop along the column are candidates; in the
 -- region, and not at d, at least one is, and what the tests choose is the choice.
-use mathlib.Core.Path.{_≡_, refl, sym, subst, subst₂, subst₃}
+use mathlib.Core.Path.{_≡_, refl, sym, subst₂, subst₃}
 use mathlib.Core.Bool.{Bool, true, false, cond, true≢false}
 use mathlib.Core.List.{List}
 use mathlib.Core.Logic.{_↔_, _⊎_, inl, inr}
@@ -19,7 +19,7 @@ use Rattle.field.specs.Workings.GridLaws.{Toward, along-row, along-colum
 use Rattle.field.specs.Workings.RegionLaws.{has-drive-in, region-sheet-draws}
 use Rattle.field.specs.Workings.ChooserLaws.{top-bit, candidate-toward, toward-candidate, candidate-some, chosen-candidate, chosen-one, driven-one}
 
--- A decision as a test.
+-- A decision as a test, and a test that is made only where another fails.
 test-of : {P : Type 0} → Dec P → (t : Bool) × ((t ≡ true) ↔ P)
 test-of (yes p) = (true, ((λ e. p), λ q. refl))
 test-of (no n) = (false, ((λ e. absurd (true≢false (sym e))), λ q. absurd (n q)))
@@ -40,8 +40,7 @@ module _ (w h : ℕ) (C : ℕ → ℕ → Type 0) (sx sy dx dy : ℕ) where
   InColumn x y = Candidate w h C sx sy dx dy x y x (hopTo y dy)
 
   candidate-at : {x y a b c d : ℕ} → a ≡ c → b ≡ d → Candidate w h C sx sy dx dy x y a b → Candidate w h C sx sy dx dy x y c d
-  candidate-at {x} {y} {a} {b} {c} {d} p q k =
-      subst (λ (j : ℕ). Candidate w h C sx sy dx dy x y c j) q (subst (λ (i : ℕ). Candidate w h C sx sy dx dy x y i b) p k)
+  candidate-at {x} {y} p q k = subst₂ (λ (i j : ℕ). Candidate w h C sx sy dx dy x y i j) p q k
 
   -- A candidate is one of the two.
   data OneOf (x y a b : ℕ) : Type 0 where
@@ -55,6 +54,7 @@ module _ (w h : ℕ) (C : ℕ → ℕ → Type 0) (sx sy dx dy : ℕ) where
       go (along-row n p q) = by-row (candidate-at p q k) p q
       go (along-column n p q) = by-column (candidate-at p q k) p q
 
+  -- The choice by what is a candidate: the one, the other, or a draw between the two.
   row-alone : {x y : ℕ} (z : ℕ) → InRow x y → ¬ InColumn x y → Chosen w h C sx sy dx dy x y z (hopTo x dx) y z
   row-alone {x} {y} z k n = alone k (λ c d m. go (one-of m)) refl
     where
@@ -132,6 +132,7 @@ module _ (w h : ℕ) (C : ℕ → ℕ → Type 0) (sx sy dx dy : ℕ) where
       (choice-right w h C sx sy dx dy z r f _ _ (row-test w h C sx sy dx dy x y (e .0) (e .1)) (column-test w h C sx sy dx dy x y (n .0) (n .1)))
 
 module _ (w h : ℕ) (C : ℕ → ℕ → Type 0) (sx sy dx dy : ℕ) (g : List ℕ) (G : RegionSheet w h C sx sy dx dy g) where
+  -- A mark on the sheet tells the region.
   in-looks : (x y : ℕ) → (ltb 0 (lit g w h x y) ≡ true) ↔ InRegion w h C sx sy dx dy x y
   in-looks x y = (sound, complete)
     where

@@ -1,6 +1,6 @@
 -- Laws of drives. A hop brings a cart at most one nearer, so a drive has at least as many hops as the distance; drives join, turn round and
 -- split; and a shortest drive joined, turned or split gives shortest drives.
-use mathlib.Core.Path.{_≡_, refl, sym, subst, ap, _∙_}
+use mathlib.Core.Path.{_≡_, refl, sym, subst, subst₂, ap, _∙_}
 use mathlib.Core.List.{List, [], _∷_, _++_, reverseAux, reverse}
 use mathlib.Core.Logic.{_↔_}
 use Prim.Native.Nat.{ℕ, zero, suc, _+_, _<_, _≤_}
@@ -12,22 +12,20 @@ use Rattle.field.specs.Drives.{Drive, last, next, HasDrive}
 use Rattle.field.specs.Workings.GridLaws.{dist-none, dist-turned, near-turned, hop-le, number-one}
 
 module _ (w h : ℕ) (C : ℕ → ℕ → Type 0) where
-  -- Things are true of a crossing whatever its coordinates are called.
+  -- What is true of a crossing is true of it whatever its coordinates are called.
   pub open-at : {x y a b : ℕ} → x ≡ a → y ≡ b → Open w h C x y → Open w h C a b
-  open-at {x} {y} {a} {b} p q o = subst (λ (j : ℕ). Open w h C a j) q (subst (λ (i : ℕ). Open w h C i y) p o)
+  open-at p q o = subst₂ (λ (i j : ℕ). Open w h C i j) p q o
 
   pub drive-from : {dx dy x y a b : ℕ} {l : List ℕ} → x ≡ a → y ≡ b → Drive w h C dx dy x y l → Drive w h C dx dy a b l
-  drive-from {dx} {dy} {x} {y} {a} {b} {l} p q v =
-      subst (λ (j : ℕ). Drive w h C dx dy a j l) q (subst (λ (i : ℕ). Drive w h C dx dy i y l) p v)
+  drive-from {dx} {dy} {l} p q v = subst₂ (λ (i j : ℕ). Drive w h C dx dy i j l) p q v
 
   pub drive-to : {dx dy c d x y : ℕ} {l : List ℕ} → dx ≡ c → dy ≡ d → Drive w h C dx dy x y l → Drive w h C c d x y l
-  drive-to {dx} {dy} {c} {d} {x} {y} {l} p q v =
-      subst (λ (j : ℕ). Drive w h C c j x y l) q (subst (λ (i : ℕ). Drive w h C i dy x y l) p v)
+  drive-to {x} {y} {l} p q v = subst₂ (λ (i j : ℕ). Drive w h C i j x y l) p q v
 
   drive-list : {dx dy x y : ℕ} {l m : List ℕ} → l ≡ m → Drive w h C dx dy x y l → Drive w h C dx dy x y m
   drive-list {dx} {dy} {x} {y} e v = subst (λ (k : List ℕ). Drive w h C dx dy x y k) e v
 
-  -- A drive's first crossing, and its last.
+  -- A drive's first crossing and its last are open, and its list begins with the one and ends with the other.
   pub drive-open : {dx dy x y : ℕ} {l : List ℕ} → Drive w h C dx dy x y l → Open w h C x y
   drive-open (last p q o e) = o
   drive-open (next o n v e) = o
@@ -51,7 +49,7 @@ module _ (w h : ℕ) (C : ℕ → ℕ → Type 0) where
   drive-long {dx} {dy} (last p q o e) = omega (arith, ap length e, dist-none p q)
   drive-long {dx} {dy} (next o n v e) = omega (arith, ap length e, drive-long v, hop-le dx dy n)
 
-  -- Drives join.
+  -- Drives join: the crossing where the one ends and the other begins is named once.
   pub drive-join : {a b dx dy x y : ℕ} {l m : List ℕ} → Drive w h C a b x y l → Drive w h C dx dy a b m → Drive w h C dx dy x y (l ++ drop 1 m)
   drive-join {m} (last p q o e) u = let v = drive-from (sym p) (sym q) u in drive-list (rw e (drive-head v)) v
   drive-join {m} (next o n v e) u = next o n (drive-join v u) (ap (λ (k : List ℕ). k ++ drop 1 m) e)
@@ -136,7 +134,8 @@ module _ (w h : ℕ) (C : ℕ → ℕ → Type 0) where
   drive-hop : {x y dx dy : ℕ} {l : List ℕ} → Drive w h C dx dy x y l → length l ≡ dist x y dx dy + 1 → FirstHop w h C x y dx dy
   drive-hop (last p q o e) k = there o p q
   drive-hop {x} {y} {dx} {dy} (next {a} {b} {m} o n v e) k =
-      let f : (length m ≡ dist a b dx dy + 1) × (dist a b dx dy + 1 ≡ dist x y dx dy) = omega (arith, ap length e, drive-long w h C v, hop-le dx dy n) in
+      let f : (length m ≡ dist a b dx dy + 1) × (dist a b dx dy + 1 ≡ dist x y dx dy) =
+      omega (arith, ap length e, drive-long w h C v, hop-le dx dy n) in
       hop a b o n (f .1) (record { route = m; shortest = record { drive = v; hops = f .0 } })
 
   hop-drive : {x y dx dy : ℕ} → FirstHop w h C x y dx dy → HasDrive w h C x y dx dy
@@ -148,5 +147,6 @@ module _ (w h : ℕ) (C : ℕ → ℕ → Type 0) where
         shortest = record { drive = next o n (r .shortest .drive) refl; hops = omega (arith, r .shortest .hops) };
       }
 
+  -- There is a shortest drive exactly if one can begin.
   pub has-drive-step : {x y dx dy : ℕ} → HasDrive w h C x y dx dy ↔ FirstHop w h C x y dx dy
   has-drive-step = ((λ r. drive-hop (r .shortest .drive) (r .shortest .hops)), hop-drive)

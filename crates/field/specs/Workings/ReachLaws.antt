@@ -20,6 +20,7 @@ use Rattle.field.specs.Workings.GridLaws.{dist-none, dist-zero, dist-tur
 use Rattle.field.specs.Workings.DriveLaws.{FirstHop, there, hop, has-drive-open, has-drive-turned, has-drive-step}
 use Rattle.field.specs.Workings.RegionLaws.{region-split, has-drive-in, region-sheet-one, region-sheet-draws}
 
+-- Tests.
 true-bit : {b : Bool} → b ≡ true → 0 < bit b
 true-bit e = omega (arith, ap bit e)
 
@@ -50,6 +51,7 @@ module _ (w h : ℕ) (C : ℕ → ℕ → Type 0) (c : List ℕ) (D : Draws w h 
     abbrev pub Within : ℕ → ℕ → ℕ → Type 0
     Within n x y = HasDrive w h C x y dx dy × (dist x y dx dy ≤ n)
 
+    -- With no hop, d itself.
     start-draws : Draws w h (Within 0) (sheet w h (λ x y. bit (openOf c w h x y && eqb (dist x y dx dy) 0)))
     start-draws = sheet-draws w h (Within 0) (λ x y. bit (openOf c w h x y && eqb (dist x y dx dy) 0)) sound complete
       where
@@ -65,6 +67,7 @@ module _ (w h : ℕ) (C : ℕ → ℕ → Type 0) (c : List ℕ) (D : Draws w h 
             let o = has-drive-open w h C (r .0) in
             (o .on, true-bit (and-both _ _ (open-looks x y .1 o) (eq-eqb (dist x y dx dy) 0 (omega arith))))
 
+    -- One hop more: t marks what is within n hops.
     next-sound : (n : ℕ) (t : List ℕ) → Draws w h (Within n) t → (x y : ℕ) → On w h x y → 0 < reachNext c w h dx dy t (suc n) x y → Within (suc n) x y
     unfolding reachNext
     next-sound n t T x y o l = go (or-split _ _ (bit-true _ l))
@@ -78,11 +81,14 @@ module _ (w h : ℕ) (C : ℕ → ℕ → Type 0) (c : List ℕ) (D : Draws w h 
             let z = eqb-true (dist x y dx dy) (suc n) (g .0) in
             let b = around-one t w h x y (ltb-true _ _ (g .1)) in
             let k = T .sound (b .a) (b .b) (b .mark) in
-            (has-drive-step w h C .1 (hop (b .a) (b .b) (open-looks x y .0 (f .0)) (b .near) (omega (arith, k .1, z, hop-le dx dy (b .near))) (k .0)), omega arith)
+            let s : dist (b .a) (b .b) dx dy + 1 ≡ dist x y dx dy = omega (arith, k .1, z, hop-le dx dy (b .near)) in
+            (has-drive-step w h C .1 (hop (b .a) (b .b) (open-looks x y .0 (f .0)) (b .near) s (k .0)), omega arith)
 
     next-complete : (n : ℕ) (t : List ℕ) → Draws w h (Within n) t → (x y : ℕ) → Within (suc n) x y → On w h x y × (0 < reachNext c w h dx dy t (suc n) x y)
     unfolding reachNext
-    next-complete n t T x y r = let o = has-drive-open w h C (r .0) in (o .on, true-bit (go o (decLe (dist x y dx dy) n) (has-drive-step w h C .0 (r .0))))
+    next-complete n t T x y r =
+        let o = has-drive-open w h C (r .0) in
+        (o .on, true-bit (go o (decLe (dist x y dx dy) n) (has-drive-step w h C .0 (r .0))))
       where
         go : Open w h C x y → Dec (dist x y dx dy ≤ n) → FirstHop w h C x y dx dy
             → (ltb 0 (lit t w h x y) || (openOf c w h x y && (eqb (dist x y dx dy) (suc n) && ltb 0 (around t w h x y)))) ≡ true
@@ -93,6 +99,7 @@ module _ (w h : ℕ) (C : ℕ → ℕ → Type 0) (c : List ℕ) (D : Draws w h 
             (and-both _ _ (open-looks x y .1 o)
             (and-both _ _ (eq-eqb (dist x y dx dy) (suc n) (omega arith)) (lt-ltb _ _ (one-around t w h x y a b near (T .complete a b (k, omega arith))))))
 
+    -- Reaching n hops draws the crossings that have a shortest drive to d of at most n hops.
     pub reach-draws : (n : ℕ) → Draws w h (λ x y. HasDrive w h C x y dx dy × (dist x y dx dy ≤ n)) (reach c w h dx dy n)
     unfolding reach
     reach-draws zero = start-draws
@@ -108,6 +115,7 @@ module _ (w h : ℕ) (C : ℕ → ℕ → Type 0) (c : List ℕ) (D : Draws w h 
         eqb (dist sx sy x y + dist x y dx dy) (dist sx sy dx dy)
         && (ltb 0 (lit (reach c w h sx sy (dist sx sy dx dy)) w h x y) && ltb 0 (lit (reach c w h dx dy (dist sx sy dx dy)) w h x y))
 
+    -- It passes the crossings of the region, and no others.
     test-sound : (x y : ℕ) → On w h x y → onTest x y ≡ true → InRegion w h C sx sy dx dy x y
     test-sound x y o e =
         let n = dist sx sy dx dy in

@@ -21,6 +21,7 @@ pub record Between (w h : ℕ) (C : ℕ → ℕ → Type 0) (sx sy dx dy x y : �
   pub after : HasDrive w h C x y dx dy
 
 module _ (w h : ℕ) (C : ℕ → ℕ → Type 0) (sx sy dx dy : ℕ) where
+  -- The two parts of a shortest drive are as short as can be: together they have no more hops than the distance.
   split-between : {x y : ℕ} (l : List ℕ) (i : ℕ) → i < length l → length l ≡ dist sx sy dx dy + 1 → On w h x y
       → Drive w h C x y sx sy (take (suc i) l) → Drive w h C dx dy x y (drop i l) → Between w h C sx sy dx dy x y
   split-between {x} {y} l i b e o v u =
@@ -37,7 +38,9 @@ module _ (w h : ℕ) (C : ℕ → ℕ → Type 0) (sx sy dx dy : ℕ) where
   region-between r =
       let k = drive-split w h C (r .shortest .drive) (r .place) (r .in-route) in
       let s = number-one (r .on) (drive-open w h C (k .after) .on) (sym (k .is-there) ∙ r .is-there) in
-      split-between (r .route) (r .place) (r .in-route) (r .shortest .hops) (r .on) (drive-to w h C (s .0) (s .1) (k .before)) (drive-from w h C (s .0) (s .1) (k .after))
+      let v = drive-to w h C (s .0) (s .1) (k .before) in
+      let u = drive-from w h C (s .0) (s .1) (k .after) in
+      split-between (r .route) (r .place) (r .in-route) (r .shortest .hops) (r .on) v u
 
   between-region : {x y : ℕ} → Between w h C sx sy dx dy x y → InRegion w h C sx sy dx dy x y
   between-region {x} {y} b =
@@ -59,6 +62,7 @@ module _ (w h : ℕ) (C : ℕ → ℕ → Type 0) (sx sy dx dy : ℕ) where
         is-there = List·getD-append l (drop 1 m) 0 (dist sx sy x y) f ∙ drive-end w h C v (dist sx sy x y) (b .before .shortest .hops);
       }
 
+  -- A crossing is in the region exactly if it lies between s and d so.
   pub region-split : {x y : ℕ} → InRegion w h C sx sy dx dy x y ↔ Between w h C sx sy dx dy x y
   region-split = (region-between, between-region)
 
@@ -101,6 +105,7 @@ in-out-one (is-out e p) (is-in f q) = absurd (p q)
 in-out-one (is-out e p) (is-out f q) = omega arith
 
 module _ (w h : ℕ) (C : ℕ → ℕ → Type 0) (sx sy dx dy : ℕ) where
+  -- There is one region sheet.
   pub region-sheet-one : {s t : List ℕ} → RegionSheet w h C sx sy dx dy s → RegionSheet w h C sx sy dx dy t → s ≡ t
   region-sheet-one {s} {t} p q = sheet-same w h s t (p .size) (q .size) (λ x y o. in-out-one (p .region x y o) (q .region x y o))
 
