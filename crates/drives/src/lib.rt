@@ -1,4 +1,7 @@
 // The region of shortest drives, and the chooser's drive, over a sheet that marks the closed crossings.
+mod looks;
+mod passes;
+
 ghost use mathlib.Core.Path.{_≡_};
 ghost use Prim.Native.Nat.{ℕ, _+_, _*_, _%_, _<_, _≤_};
 ghost use lib.ListN.{length, take};
@@ -21,7 +24,9 @@ pub enum Made {
     Filled(usize, u32),
 }
 
-// The region from (sx, sy) to (dx, dy) into a lent sheet.
+// The region from (sx, sy) to (dx, dy) into a lent sheet, which is its own working memory. A pass from s marks what a shortest drive from s
+// reaches inside the rectangle that s and d span; a pass from d then keeps what also reaches d. With an end closed the sheet stays as it was;
+// with no shortest drive it ends all 0, and then s itself has no mark.
 pub fn region(
     s: &[u8],
     w: usize,
@@ -35,7 +40,21 @@ pub fn region(
     requires { ⌜ Asked w h (now s) (now g) sx sy dx dy ⌝ }
     ensures { λ r. ⌜ Regioned w h (now (s .entry)) sx sy dx dy (now (g .entry)) (now (g .exit)) r ⌝ }
 {
-    Found::EndClosed
+    let i = looks::number_of(w, h, sx, sy);
+    if s[i] != 0 {
+        return Found::EndClosed;
+    }
+    let j = looks::number_of(w, h, dx, dy);
+    if s[j] != 0 {
+        return Found::EndClosed;
+    }
+    passes::wipe(g);
+    passes::spread(s, w, h, sx, sy, dx, dy, g);
+    passes::sift(w, h, dx, dy, sx, sy, g);
+    if g[i] == 0 {
+        return Found::Nowhere;
+    }
+    Found::Somewhere
 }
 
 // The generator's next state.

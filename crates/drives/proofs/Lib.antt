@@ -1,0 +1,7 @@
+-- Laws that the functions' proofs cite.
+pub mod WayLaws
+pub mod LookLaws
+pub mod PassLaws
+pub mod WalkLaws
+pub mod BackLaws
+pub mod RegionMade
