@@ -57,11 +57,19 @@ pub fn region(
     Found::Somewhere
 }
 
-// The generator's next state.
+// a × b, modulo 2^32: the product of two 32-bit numbers fits 64 bits.
+fn wrapping_product(a: u32, b: u32) -> u32
+    ensures { λ r. ⌜ r ≡ (a * b) % 4294967296 ⌝ }
+{
+    let p = (a as u64) * (b as u64);
+    (p % 4294967296) as u32
+}
+
+// The generator's next state: 1664525 × z + 1013904223, modulo 2^32.
 pub fn draw(z: u32) -> u32
     ensures { λ r. ⌜ r ≡ drawn z ⌝ }
 {
-    z
+    std::num::wrapping_add_u32(wrapping_product(1664525, z), 1013904223)
 }
 
 // The chooser's drive from (sx, sy) to (dx, dy) in state z, into the front of a lent route.
