@@ -20,6 +20,7 @@ use Rattle.field.specs.Workings.GridLaws.{Toward, along-row, along-column, near
 use Rattle.field.specs.Workings.DriveLaws.{FirstHop, there, hop, has-drive-open, has-drive-step}
 use Rattle.drives.specs.Passes.{Spanned, backed, Pass}
 use Rattle.drives.proofs.WayLaws.{way-back}
+use Rattle.drives.proofs.LookLaws.{off-split, off-both}
 
 -- Why (x, y) is backed: it is the end, or one of the two hops towards the end leads to a mark.
 data Backing (g : List ℕ) (w h ex ey x y : ℕ) : Type 0 where
@@ -27,14 +28,6 @@ data Backing (g : List ℕ) (w h ex ey x y : ℕ) : Type 0 where
   behind : (a b : ℕ) → Toward ex ey x y a b → Marked g w h a b → Backing g w h ex ey x y
 
 module _ (g : List ℕ) (w h ex ey x y : ℕ) where
-  -- A test that is made only where p is not d.
-  off-split : (p d : ℕ) (t : Bool) → cond (eqb p d) false t ≡ true → (¬ (p ≡ d)) × (t ≡ true)
-  off-split p d t e = go (eqb p d) refl e
-    where
-      go : (u : Bool) → eqb p d ≡ u → cond u false t ≡ true → (¬ (p ≡ d)) × (t ≡ true)
-      go true f k = absurd (true≢false (sym k))
-      go false f k = (eqb-false p d f, k)
-
   backed-split : backed g w h ex ey x y ≡ true → Backing g w h ex ey x y
   unfolding backed eastWestIn northSouthIn
   backed-split e = go (or-split _ _ e)
@@ -55,9 +48,6 @@ module _ (g : List ℕ) (w h ex ey x y : ℕ) where
           → Backing g w h ex ey x y
       go (inl f) = let k = and-split (eqb x ex) (eqb y ey) f in at-end (eqb-true _ _ (k .0)) (eqb-true _ _ (k .1))
       go (inr f) = hops (or-split _ _ f)
-
-  off-both : (p d : ℕ) (t : Bool) → ¬ (p ≡ d) → t ≡ true → cond (eqb p d) false t ≡ true
-  off-both p d t n e = simp (ne-eqb p d n, e)
 
   lit-test : {a b c d : ℕ} → a ≡ c → b ≡ d → Marked g w h a b → ltb 0 (lit g w h c d) ≡ true
   lit-test {a} {b} {c} {d} p q m =

@@ -5,3 +5,5 @@ pub mod PassLaws
 pub mod WalkLaws
 pub mod BackLaws
 pub mod RegionMade
+pub mod ChoiceLaws
+pub mod RouteLaws

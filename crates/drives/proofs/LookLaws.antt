@@ -1,6 +1,6 @@
 -- Laws of numbers and of looks at a sheet: what the tests of a hop towards an end come to.
 use mathlib.Core.Path.{_≡_, refl, sym, ap, _∙_}
-use mathlib.Core.Bool.{Bool, true, false, cond, _&&_, _||_}
+use mathlib.Core.Bool.{Bool, true, false, cond, _&&_, _||_, true≢false}
 use mathlib.Core.List.{List}
 use Prim.Native.Nat.{ℕ, _+_, _*_, _<_, _≤_}
 use native.Mathlib.Omega.{arith}
@@ -8,7 +8,7 @@ use native.Mathlib.Nat.{mul-le-mul-right}
 use native.Mathlib.Decide.{ℕ-discrete}
 use lib.Dec.{ltb, eqb}
 use lib.ListN.{getD}
-use borrow.Author.Tests.{lt-ltb, le-ltb, eq-eqb, ne-eqb}
+use borrow.Author.Tests.{lt-ltb, le-ltb, eq-eqb, ne-eqb, eqb-false}
 use Rattle.field.specs.Map.{side, Sides, On, number, at, Apart}
 use Rattle.field.specs.Workings.Marks.{or-right}
 use Rattle.field.specs.Workings.Sheet.{bit, lit}
@@ -31,6 +31,17 @@ lit-on g w h x y o = simp (lt-ltb x w (o .in-x), lt-ltb y h (o .in-y)) (bit-test
     bit-test : (t : Bool) → ltb 0 (bit t) ≡ t
     bit-test true = refl
     bit-test false = refl
+
+-- A test that is made only where p is not d.
+pub off-split : (p d : ℕ) (t : Bool) → cond (eqb p d) false t ≡ true → (¬ (p ≡ d)) × (t ≡ true)
+off-split p d t e = go (eqb p d) refl e
+  where
+    go : (u : Bool) → eqb p d ≡ u → cond u false t ≡ true → (¬ (p ≡ d)) × (t ≡ true)
+    go true f k = absurd (true≢false (sym k))
+    go false f k = (eqb-false p d f, k)
+
+pub off-both : (p d : ℕ) (t : Bool) → ¬ (p ≡ d) → t ≡ true → cond (eqb p d) false t ≡ true
+off-both p d t n e = simp (ne-eqb p d n, e)
 
 module _ {w h ex ey x y : ℕ} {g : List ℕ} (k : Looked w h g ex ey x y) where
   -- The hop towards an end stays on the map.

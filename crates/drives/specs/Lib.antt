@@ -2,3 +2,4 @@
 -- shows that a promise leaves one outcome.
 pub mod Promise
 pub mod Passes
+pub mod Hops

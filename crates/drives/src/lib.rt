@@ -1,4 +1,5 @@
 // The region of shortest drives, and the chooser's drive, over a sheet that marks the closed crossings.
+mod chooser;
 mod looks;
 mod passes;
 
@@ -72,7 +73,8 @@ pub fn draw(z: u32) -> u32
     std::num::wrapping_add_u32(wrapping_product(1664525, z), 1013904223)
 }
 
-// The chooser's drive from (sx, sy) to (dx, dy) in state z, into the front of a lent route.
+// The chooser's drive from (sx, sy) to (dx, dy) in state z, into the front of a lent route; the rest of the route stays. The region comes
+// first, and only when there is a shortest drive is the route's length looked at: at 8, 9 and 10 the route stays as it was.
 pub fn fill(
     s: &[u8],
     w: usize,
@@ -88,5 +90,17 @@ pub fn fill(
     requires { ⌜ Asked w h (now s) (now g) sx sy dx dy ⌝ }
     ensures { λ r. ⌜ Makes w h (now (s .entry)) sx sy dx dy z (now (g .entry)) (now (g .exit)) (now (route .entry)) (now (route .exit)) r ⌝ }
 {
-    Made::Closed
+    let found = region(s, w, h, sx, sy, dx, dy, g);
+    match found {
+        Found::EndClosed => Made::Closed,
+        Found::Nowhere => Made::NoDrive,
+        Found::Somewhere => {
+            let n = chooser::offset(sx, dx) + chooser::offset(sy, dy) + 1;
+            if route.len() < n {
+                return Made::Short;
+            }
+            let state = chooser::write_drive(g, w, h, sx, sy, dx, dy, z, route);
+            Made::Filled(n, state)
+        }
+    }
 }
