@@ -3,3 +3,4 @@
 pub mod Promise
 pub mod Passes
 pub mod Hops
+pub mod Outcome

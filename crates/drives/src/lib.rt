@@ -7,7 +7,7 @@ ghost use mathlib.Core.Path.{_≡_};
 ghost use Prim.Native.Nat.{ℕ, _+_, _*_, _%_, _<_, _≤_};
 ghost use lib.ListN.{length, take};
 ghost use Rattle.field.specs.Chooser.{drawn};
-ghost use Rattle.drives.specs.Promise.{Asked, Regioned, Makes};
+ghost use Rattle.drives.specs.Promise.{Asked, Regioned, Makes, Drives};
 
 // What asking for the region finds: an end closed (8), no shortest drive (9), or some.
 pub enum Found {
@@ -101,6 +101,49 @@ pub fn fill(
             }
             let state = chooser::write_drive(g, w, h, sx, sy, dx, dy, z, route);
             Made::Filled(n, state)
+        }
+    }
+}
+
+// The chooser's drive from (sx, sy) to (dx, dy) in the lent state, handed back as the leading part of the lent route: s first and d last, and on
+// a refusal empty. The refusal's number, 0 on success, goes out through `refusal`. The promise speaks of the part that is handed back, and of the
+// route as `fill` leaves it; it cannot speak of the caller's whole slice as this call ends, since the part handed back still borrows it. That the
+// rest of the route is unchanged is what `fill` promises, and nothing is written after it.
+pub fn drive<'a>(
+    s: &[u8],
+    w: usize,
+    h: usize,
+    sx: usize,
+    sy: usize,
+    dx: usize,
+    dy: usize,
+    g: &mut [u8],
+    route: &'a mut [u16],
+    refusal: &mut u8,
+    state: &mut u32,
+) -> &'a mut [u16]
+    requires { ⌜ Asked w h (now s) (now g) sx sy dx dy ⌝ }
+    ensures { λ r. ⌜ Drives w h (now (s .entry)) sx sy dx dy (now (state .entry)) (now (g .entry)) (now (g .exit)) (now (route .entry)) (now r) (now (refusal .exit)) (now (state .exit)) ⌝ }
+{
+    let z = *state;
+    let made = fill(s, w, h, sx, sy, dx, dy, z, g, route);
+    match made {
+        Made::Closed => {
+            *refusal = 8;
+            &mut route[..0]
+        }
+        Made::NoDrive => {
+            *refusal = 9;
+            &mut route[..0]
+        }
+        Made::Short => {
+            *refusal = 10;
+            &mut route[..0]
+        }
+        Made::Filled(n, after) => {
+            *refusal = 0;
+            *state = after;
+            &mut route[..n]
         }
     }
 }
