@@ -85,6 +85,10 @@ module _ {w h ex ey x y : ℕ} {g : List ℕ} (k : Looked w h g ex ey x y) where
       away (yes p) = simp (eq-eqb x ex p, ne-eqb y ey (λ q. n (p, q)))
       away (no m) = simp (ne-eqb x ex m)
 
+-- What a look has answered is what its definition has.
+pub told : {t u v : Bool} → t ≡ u → t ≡ v → u ≡ v
+told e f = sym e ∙ f
+
 -- What a test for 0 tells.
 pub mark-none : {v : ℕ} {t : Bool} → v ≡ 0 → ltb 0 v ≡ t → false ≡ t
 mark-none {v} e f = sym (le-ltb 0 v (omega arith)) ∙ f

@@ -41,8 +41,10 @@ pub fn choose(
     requires { ⌜ Choosable w h (now g) dx dy x y ⌝ }
     ensures { λ r. ⌜ Chose w h (now (g .entry)) dx dy x y z r ⌝ }
 {
-    if east_west(g, w, h, dx, dy, x, y) {
-        if north_south(g, w, h, dx, dy, x, y) {
+    let e = east_west(g, w, h, dx, dy, x, y);
+    let n = north_south(g, w, h, dx, dy, x, y);
+    if e {
+        if n {
             let t = draw(z);
             if t < 2147483648 {
                 return Choice {
