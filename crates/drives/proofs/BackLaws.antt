@@ -1,13 +1,13 @@
 -- What a pass from e means. Each crossing of its rectangle is allowed or not, and the sheet then marks the allowed ones that have a shortest
 -- drive to e: by the first hop of such a drive, and by induction on the distance.
-use mathlib.Core.Path.{_≡_, refl, sym, subst, ap, _∙_}
+use mathlib.Core.Path.{_≡_, refl, sym, ap, _∙_}
 use mathlib.Core.Bool.{Bool, true, false, cond, _&&_, _||_, true≢false}
 use mathlib.Core.List.{List}
 use mathlib.Core.Logic.{_⊎_, inl, inr}
 use Prim.Native.Nat.{ℕ, zero, suc, _+_, _<_}
 use native.Mathlib.Omega.{arith}
 use lib.Dec.{ltb, eqb}
-use borrow.Author.Tests.{ltb-true, lt-ltb, eqb-true, eqb-false, eq-eqb, ne-eqb}
+use borrow.Author.Tests.{ltb-true, lt-ltb, eqb-true, eq-eqb}
 use Rattle.field.specs.Map.{On, at, dist}
 use Rattle.field.specs.Labels.{Open}
 use Rattle.field.specs.Drives.{HasDrive, InOut, is-in, is-out}

@@ -1,15 +1,13 @@
 -- What the chooser's tests come to, case by case: two candidates and a top bit of 0 or 1, one along the row, or one along the column.
-use mathlib.Core.Path.{_≡_, refl, sym, ap, _∙_}
-use mathlib.Core.Bool.{Bool, true, false, cond, false≢true}
+use mathlib.Core.Path.{_≡_}
+use mathlib.Core.Bool.{true, false}
 use mathlib.Core.List.{List}
-use mathlib.Core.Logic.{_⊎_, inl, inr}
-use Prim.Native.Nat.{ℕ, _/_, _<_, _≤_}
+use Prim.Native.Nat.{ℕ, _<_, _≤_}
 use native.Mathlib.Omega.{arith}
-use lib.Dec.{eqb}
 use borrow.Author.Tests.{eq-eqb, ne-eqb}
 use Rattle.field.specs.Chooser.{drawn, top}
 use Rattle.field.specs.Workings.Looking.{hopTo}
-use Rattle.field.specs.Workings.Reaching.{Choice, eastWestIn, northSouthIn, choiceOf, chosenOf}
+use Rattle.field.specs.Workings.Reaching.{Choice, eastWestIn, northSouthIn, chosenOf}
 use Rattle.drives.specs.declared.chooser.Choice as drives
 use Rattle.drives.specs.Hops.{Chose}
 use Rattle.drives.proofs.LookLaws.{off-split}

@@ -1,7 +1,7 @@
 -- Laws of passes. A pass over one part and then over another is a pass over both, where the first part has no crossing of the second and no hop
 -- from it towards the pass's end leads into the second: what the first part has settled then stays.
 use mathlib.Core.Path.{_≡_, refl, sym, ap, _∙_}
-use mathlib.Core.Bool.{Bool, false, cond, _&&_, _||_, and-false}
+use mathlib.Core.Bool.{Bool, false, cond, _&&_, and-false}
 use mathlib.Core.List.{List}
 use mathlib.Core.Logic.{_⊎_, inl, inr}
 use Prim.Native.Nat.{ℕ, _*_, _<_}
@@ -16,7 +16,7 @@ use Rattle.field.specs.Workings.Sheet.{bit, lit, number-lt}
 use Rattle.field.specs.Workings.Looking.{hopTo}
 use Rattle.field.specs.Workings.Reaching.{eastWestIn, northSouthIn}
 use Rattle.field.specs.Workings.GridLaws.{Toward, along-row, along-column, toward-near, near-apart, number-one}
-use Rattle.drives.specs.Passes.{Looked, backed, Pass}
+use Rattle.drives.specs.Passes.{backed, Pass}
 
 -- Looks on two sheets that agree give the same.
 lit-same : (g g′ : List ℕ) (w h x y : ℕ) → (On w h x y → at g w x y ≡ at g′ w x y) → lit g w h x y ≡ lit g′ w h x y

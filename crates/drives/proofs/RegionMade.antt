@@ -1,19 +1,19 @@
 -- The two passes make the region sheet. The pass from s marks what is open and has a shortest drive to s; the pass from d keeps of that what has
 -- one to d as well; and in the rectangle that s and d span the two together are no detour.
-use mathlib.Core.Path.{_≡_, refl, sym, _∙_}
+use mathlib.Core.Path.{_≡_, sym, _∙_}
 use mathlib.Core.List.{List}
 use Prim.Native.Nat.{ℕ, _+_, _*_, _<_}
 use native.Mathlib.Omega.{arith}
 use native.Mathlib.Decide.{ℕ-discrete}
 use lib.ListN.{length, getD}
-use Rattle.field.specs.Map.{On, number, at, gap, dist}
+use Rattle.field.specs.Map.{On, number, at, dist}
 use Rattle.field.specs.Labels.{Open}
 use Rattle.field.specs.Drives.{HasDrive, InRegion, InOut, is-in, is-out, RegionSheet}
 use Rattle.field.specs.Workings.Sheet.{Marked}
 use Rattle.field.specs.Workings.GridLaws.{Toward, gap-turned, gap-detour, near-turned, toward-near, toward-nearer}
 use Rattle.field.specs.Workings.DriveLaws.{hop, has-drive-open, has-drive-turned, has-drive-step}
 use Rattle.field.specs.Workings.RegionLaws.{region-split, has-drive-in}
-use Rattle.drives.specs.Passes.{OnWay, Spanned, Pass, free, Wiped}
+use Rattle.drives.specs.Passes.{Spanned, Pass, free, Wiped}
 use Rattle.drives.proofs.LookLaws.{zero-bit, other-bit}
 use Rattle.drives.proofs.BackLaws.{spanned-toward, pass-means}
 

@@ -1,22 +1,21 @@
 -- How a drive is written down. What stands on the route so far, followed by the drive that the chooser makes from the crossing it has come to, is
 -- always the whole drive from s; and that crossing is always in the region, so there is a candidate as long as it is not d.
 use mathlib.Core.Path.{_≡_, refl, sym, ap, _∙_}
-use mathlib.Core.Bool.{Bool, true, false, cond}
+use mathlib.Core.Bool.{true}
 use mathlib.Core.List.{List, [], _∷_, _++_, append-assoc}
 use mathlib.Core.Logic.{_⊎_, inl, inr}
-use Prim.Native.Nat.{ℕ, zero, suc, _+_, _<_, _≤_}
+use Prim.Native.Nat.{ℕ, suc, _+_, _<_, _≤_}
 use native.Mathlib.Omega.{arith}
 use native.Mathlib.Numerals.{add-one}
 use lib.Dec.{ltb}
 use lib.ListN.{length, take, drop, set, length-set}
 use lib.Seq.{take-suc-set, drop-set-lt}
 use borrow.Author.Tests.{lt-ltb}
-use Rattle.field.specs.Map.{side, On, number, Apart, gap, dist}
+use Rattle.field.specs.Map.{side, number, Apart, gap, dist}
 use Rattle.field.specs.Drives.{HasDrive, InRegion, RegionSheet}
 use Rattle.field.specs.Chooser.{Candidate}
-use Rattle.field.specs.Workings.Sheet.{Marked, Draws, lit}
+use Rattle.field.specs.Workings.Sheet.{Marked, lit}
 use Rattle.field.specs.Workings.Marks.{drawn-lit}
-use Rattle.field.specs.Workings.Looking.{hopTo}
 use Rattle.field.specs.Workings.Reaching.{eastWestIn, northSouthIn, chosenOf, driveOf}
 use Rattle.field.specs.Workings.GridLaws.{Toward, along-row, along-column, dist-none}
 use Rattle.field.specs.Workings.RegionLaws.{has-drive-in, region-sheet-draws}

@@ -1,12 +1,12 @@
 -- How a pass walks over its rectangle: in a row column by column, and row by row, each farther from the pass's end than the one before.
-use mathlib.Core.Path.{_≡_, refl, sym, subst, ap, _∙_}
+use mathlib.Core.Path.{_≡_, refl, ap, _∙_}
 use mathlib.Core.Bool.{cond}
 use mathlib.Core.List.{List}
 use mathlib.Core.Logic.{_⊎_, inl, inr}
-use Prim.Native.Nat.{ℕ, _+_, _*_, _<_, _≤_}
+use Prim.Native.Nat.{ℕ, _+_, _<_, _≤_}
 use native.Mathlib.Omega.{arith}
 use native.Mathlib.Decide.{decLt}
-use lib.ListN.{length, set}
+use lib.ListN.{set}
 use Rattle.field.specs.Map.{On, number, at, gap}
 use Rattle.field.specs.Workings.Looking.{hopTo}
 use Rattle.field.specs.Workings.GridLaws.{Toward, along-row, along-column, gap-none}

@@ -1,8 +1,7 @@
 -- Laws of one axis: hops towards an end, and the coordinates on the way between two ends. A coordinate on the way is fixed by how far it is from
 -- the start, and a hop towards the end brings it one farther.
-use mathlib.Core.Path.{_≡_, refl, sym, ap, _∙_}
-use mathlib.Core.Logic.{_⊎_, inl, inr}
-use Prim.Native.Nat.{ℕ, _+_, _-_, _<_, _≤_}
+use mathlib.Core.Path.{_≡_, refl, ap}
+use Prim.Native.Nat.{ℕ, _+_, _<_, _≤_}
 use native.Mathlib.Omega.{arith}
 use borrow.Author.Tests.{lt-ltb, le-ltb}
 use Rattle.field.specs.Map.{gap}

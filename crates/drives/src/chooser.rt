@@ -1,6 +1,5 @@
 // The chooser: its choice at a crossing, and the drive that it makes.
 ghost use mathlib.Core.Path.{_≡_};
-ghost use Prim.Native.Nat.{ℕ, _+_, _*_, _<_, _≤_};
 ghost use Rattle.field.specs.Map.{gap};
 ghost use Rattle.drives.specs.Hops.{Choosable, Chose, Steered, Written};
 use super::draw;
@@ -8,6 +7,9 @@ use super::looks::east_west;
 use super::looks::hop;
 use super::looks::north_south;
 use super::looks::number_of;
+
+// The lowest state whose top bit is 1.
+const TOP_BIT: u32 = 2147483648;
 
 // Where the chooser goes, and the state after its choice.
 pub struct Choice {
@@ -46,7 +48,7 @@ pub fn choose(
     if e {
         if n {
             let t = draw(z);
-            if t < 2147483648 {
+            if t < TOP_BIT {
                 return Choice {
                     x: hop(x, dx),
                     y: y,

@@ -4,10 +4,18 @@ mod looks;
 mod passes;
 
 ghost use mathlib.Core.Path.{_≡_};
-ghost use Prim.Native.Nat.{ℕ, _+_, _*_, _%_, _<_, _≤_};
-ghost use lib.ListN.{length, take};
+ghost use Prim.Native.Nat.{_*_, _%_};
 ghost use Rattle.field.specs.Chooser.{drawn};
 ghost use Rattle.drives.specs.Promise.{Asked, Regioned, Makes, Drives};
+
+// Document 01's refusal numbers.
+const SUCCESS: u8 = 0;
+
+const END_CLOSED: u8 = 8;
+
+const NO_DRIVE: u8 = 9;
+
+const SHORT_ROUTE: u8 = 10;
 
 // What asking for the region finds: an end closed (8), no shortest drive (9), or some.
 pub enum Found {
@@ -129,19 +137,19 @@ pub fn drive<'a>(
     let made = fill(s, w, h, sx, sy, dx, dy, z, g, route);
     match made {
         Made::Closed => {
-            *refusal = 8;
+            *refusal = END_CLOSED;
             &mut route[..0]
         }
         Made::NoDrive => {
-            *refusal = 9;
+            *refusal = NO_DRIVE;
             &mut route[..0]
         }
         Made::Short => {
-            *refusal = 10;
+            *refusal = SHORT_ROUTE;
             &mut route[..0]
         }
         Made::Filled(n, after) => {
-            *refusal = 0;
+            *refusal = SUCCESS;
             *state = after;
             &mut route[..n]
         }

@@ -1,6 +1,5 @@
 // Looks at a sheet of marks, one hop from a crossing towards another.
 ghost use mathlib.Core.Path.{_≡_};
-ghost use Prim.Native.Nat.{ℕ, _+_, _*_, _<_, _≤_};
 ghost use Rattle.field.specs.Workings.Looking.{hopTo};
 ghost use Rattle.field.specs.Workings.Reaching.{eastWestIn, northSouthIn};
 ghost use Rattle.drives.specs.Passes.{Placed, Numbered, Looked, backed};

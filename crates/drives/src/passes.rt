@@ -2,8 +2,7 @@
 // and in each row from its own end's column to the other's, so that the neighbours one hop nearer its end are always behind it.
 ghost use mathlib.Core.Path.{_≡_};
 ghost use mathlib.Core.Bool.{cond};
-ghost use Prim.Native.Nat.{ℕ, _+_, _*_, _<_, _≤_};
-ghost use lib.ListN.{length, getD, set};
+ghost use lib.ListN.{set};
 ghost use Rattle.field.specs.Map.{number, at};
 ghost use Rattle.drives.specs.Promise.{Asked};
 ghost use Rattle.drives.specs.Passes.{Looked, InRow, Spanned, backed, Pass, free, Wiped};

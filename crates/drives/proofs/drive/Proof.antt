@@ -1,8 +1,6 @@
 -- `drive` meets its promise: what it hands back is the leading part of what `fill` wrote, and each case's number is the definition's.
-use mathlib.Core.Path.{_≡_, refl, sym, _∙_}
-use Prim.Native.Nat.{_≤_}
+use mathlib.Core.Path.{refl, sym}
 use native.Mathlib.Omega.{arith}
-use lib.ListN.{length}
 use lib.Seq.{length-take-le}
 use Rattle.drives.specs.declared.Made.the-variants.{Closed, NoDrive, Short, Filled}
 use borrow.Author.Needs.{needs}

@@ -1,7 +1,6 @@
 -- `fill` meets its promise. What `region` finds settles the first two refusals, the route's length the third, and the drive that is written is
 -- the chooser's.
-use mathlib.Core.Path.{_≡_, refl}
-use Prim.Native.Nat.{_+_, _<_, _≤_}
+use mathlib.Core.Path.{refl}
 use native.Mathlib.Omega.{arith}
 use Rattle.drives.proofs.RouteLaws.{dist-small, written-filling}
 use borrow.Author.Needs.{needs}

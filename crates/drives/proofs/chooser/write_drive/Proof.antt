@@ -1,10 +1,10 @@
 -- `chooser::write_drive` meets its contract. The invariant: k hops are written, and what is written with the drive from (x, y) is the whole
 -- drive. The measure is how many hops are still to be made.
-use mathlib.Core.Path.{_≡_, sym, _∙_}
-use Prim.Native.Nat.{ℕ, _+_, _-_, _<_, _≤_}
+use mathlib.Core.Path.{_≡_}
+use Prim.Native.Nat.{_-_}
 use native.Mathlib.Omega.{arith}
 use borrow.Author.Needs.{needs}
-use lib.ListN.{length, length-set}
+use lib.ListN.{length-set}
 use Rattle.field.specs.Map.{dist}
 use Rattle.drives.proofs.RouteLaws.{Onward, onward-start, onward-looked, onward-room, onward-choosable, onward-next, onward-end}
 use Rattle.drives.proofs.chooser.write_drive.Statement.{statement}

@@ -1,7 +1,4 @@
 -- `looks::east_west` meets its contract: the hop is on the map, and what stands there is what the definition looks at.
-use mathlib.Core.Path.{_≡_}
-use mathlib.Core.Bool.{Bool}
-use lib.Dec.{ltb}
 use Rattle.drives.proofs.LookLaws.{row-hop-on, east-west-off, east-west-looks, mark-none, mark-some}
 use borrow.Author.Needs.{needs}
 use Rattle.drives.proofs.looks.east_west.Statement.{statement}

@@ -1,7 +1,4 @@
 -- `looks::north_south` meets its contract: the hop is on the map, and what stands there is what the definition looks at.
-use mathlib.Core.Path.{_≡_}
-use mathlib.Core.Bool.{Bool}
-use lib.Dec.{ltb}
 use Rattle.drives.proofs.LookLaws.{column-hop-on, north-south-off, north-south-looks, mark-none, mark-some}
 use borrow.Author.Needs.{needs}
 use Rattle.drives.proofs.looks.north_south.Statement.{statement}

@@ -1,9 +1,7 @@
 -- `passes::sift_row` meets its contract. The invariant: the columns nearer the end than x are passed, and no other crossing has changed. The
 -- measure is how far column fx still is.
-use mathlib.Core.Path.{_≡_, refl, _∙_}
 use native.Mathlib.Omega.{arith}
 use Rattle.field.specs.Map.{at, gap}
-use Rattle.drives.specs.Passes.{Looked}
 use Rattle.drives.proofs.WayLaws.{way-less}
 use Rattle.drives.proofs.WalkLaws.{InRowAt, row-start, row-looked, row-still, row-again, row-end}
 use Rattle.drives.proofs.passes.sift_row.Statement.{statement}
