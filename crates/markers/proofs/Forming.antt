@@ -105,9 +105,9 @@ module _ (ids xs ys : List ℕ) (w h count : ℕ) (p : Parallel ids xs ys) where
         lent = omega (arith, listOf-length ids xs ys p);
         some-id = λ j m. omega (arith, f .some-id j (omega arith), listOf-id ids xs ys p j);
         on = λ j m.
-          record {
-            in-x = omega (arith, f .on j (omega arith) .in-x, listOf-x ids xs ys p j);
-            in-y = omega (arith, f .on j (omega arith) .in-y, listOf-y ids xs ys p j);
-          };
+            record {
+              in-x = omega (arith, f .on j (omega arith) .in-x, listOf-x ids xs ys p j);
+              in-y = omega (arith, f .on j (omega arith) .in-y, listOf-y ids xs ys p j);
+            };
         rising = λ j m. omega (arith, f .rising j (omega arith), listOf-id ids xs ys p j, listOf-id ids xs ys p (j + 1));
       }

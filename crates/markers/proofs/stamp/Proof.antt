@@ -32,7 +32,7 @@ cast-sheet : tie.Need-cast-sheet Inv-loop μ-loop
 cast-sheet c = omega (arith, c .shared-slice-known3 .given (c .before .before .loop .k))
 
 mul-sheet-2 : tie.Need-mul-sheet-2 Inv-loop μ-loop
-mul-sheet-2 c = 
+mul-sheet-2 c =
     let l = c .before .before in
     let s = l .before .before .before .before .before .before .before .before in
     omega (arith, number-lt _ _ _ _ (s .pre .on (l .loop .k) (omega arith)))
@@ -47,13 +47,13 @@ cast-sheet-2 : tie.Need-cast-sheet-2 Inv-loop μ-loop
 cast-sheet-2 c = omega (arith, c .shared-slice-known4 .given (c .before .before .before .loop .k))
 
 add-sheet : tie.Need-add-sheet Inv-loop μ-loop
-add-sheet c = 
+add-sheet c =
     let l = c .before .before .before in
     let s = l .before .before .before .before .before .before .before .before in
     omega (arith, number-lt _ _ _ _ (s .pre .on (l .loop .k) (omega arith)))
 
 slice-write-sheet : tie.Need-slice-write-sheet Inv-loop μ-loop
-slice-write-sheet c = 
+slice-write-sheet c =
     let l = c .before .before .before in
     let s = l .before .before .before .before .before .before .before .before in
     omega (arith, number-lt _ _ _ _ (s .pre .on (l .loop .k) (omega arith)))
@@ -65,7 +65,7 @@ loop-less : tie.Need-loop-less Inv-loop μ-loop
 loop-less c = omega arith
 
 loop-again : tie.Need-loop-again Inv-loop μ-loop
-loop-again c = 
+loop-again c =
     let l = c .before .before .before in
     let s = l .before .before .before .before .before .before .before .before in
     (stamping-more (s .pre .on (l .loop .k) (omega arith)) (l .loop .inv .0), omega arith)
@@ -74,7 +74,7 @@ same-length : tie.Need-same-length Inv-loop μ-loop
 same-length c = omega arith
 
 returns : tie.Need-returns Inv-loop μ-loop
-returns c = 
+returns c =
     let l = c .before in
     let s = l .before .before .before .before .before .before .before .before in
     stamping-end (s .pre .lent-xs) (s .pre .on) (omega arith) (l .loop .inv .0)

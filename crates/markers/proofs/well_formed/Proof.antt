@@ -31,7 +31,7 @@ shared-slice-read-if3 : tie.Need-shared-slice-read-if3 Inv-loop μ-loop
 shared-slice-read-if3 c = omega arith
 
 returns-3 : tie.Need-returns-3 Inv-loop μ-loop
-returns-3 c = 
+returns-3 c =
     let l = c .before .before .before in
     let s = l .before .before .before in
     refused (λ g. omega (arith, next-above _ _ _ _ _ _ (s .pre) (omega arith) (l .loop .inv) g))
@@ -46,7 +46,7 @@ cast-if4 : tie.Need-cast-if4 Inv-loop μ-loop
 cast-if4 c = omega (arith, c .shared-slice-known2 .given (c .before .before .before .before .loop .k))
 
 returns-4 : tie.Need-returns-4 Inv-loop μ-loop
-returns-4 c = 
+returns-4 c =
     let l = c .before .before .before .before .before in
     let s = l .before .before .before in
     refused (λ g. omega (arith, next-x _ _ _ _ _ _ (s .pre) {k = l .loop .k} (omega arith) g))
@@ -61,7 +61,7 @@ cast-if5 : tie.Need-cast-if5 Inv-loop μ-loop
 cast-if5 c = omega (arith, c .shared-slice-known3 .given (c .before .before .before .before .before .before .loop .k))
 
 returns-5 : tie.Need-returns-5 Inv-loop μ-loop
-returns-5 c = 
+returns-5 c =
     let l = c .before .before .before .before .before .before .before in
     let s = l .before .before .before in
     refused (λ g. omega (arith, next-y _ _ _ _ _ _ (s .pre) {k = l .loop .k} (omega arith) g))
@@ -79,13 +79,13 @@ loop-less : tie.Need-loop-less Inv-loop μ-loop
 loop-less c = omega arith
 
 loop-again : tie.Need-loop-again Inv-loop μ-loop
-loop-again c = 
+loop-again c =
     let l = c .before .before .before .before .before .before .before .before in
     let s = l .before .before .before in
     forming-more _ _ _ _ _ _ (s .pre) (omega arith) (omega arith) (omega arith) (omega arith) (l .loop .inv)
 
 returns-6 : tie.Need-returns-6 Inv-loop μ-loop
-returns-6 c = 
+returns-6 c =
     let l = c .before in
     let s = l .before .before .before in
     accepted (forming-end _ _ _ _ _ _ (s .pre) (omega arith) (omega arith) (omega arith) (l .loop .inv))

@@ -133,7 +133,7 @@ entered-some {list} {count} m r new room = (after, made)
           before = λ k l. there k (omega (arith, b .within)) ∙ slot-below list count m (b .place) k l;
           put = there (b .place) (omega (arith, b .within)) ∙ slot-there list count m (b .place) (b .place) refl;
           moved = λ k l u.
-            there (k + 1) (omega arith) ∙ slot-above list count m (b .place) (k + 1) (omega arith) (omega arith) ∙ ap (slot list) (back k);
+              there (k + 1) (omega arith) ∙ slot-above list count m (b .place) (k + 1) (omega arith) (omega arith) ∙ ap (slot list) (back k);
           rest = λ k l. past k l (decLt k (length list));
         }
       where

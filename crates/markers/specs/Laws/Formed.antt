@@ -43,9 +43,12 @@ module _ {list after : List Marker} {count : ℕ} {m : Marker} (e : Entered list
           (arith, id-same (ap (slot after) s ∙ e .put), id-same (e .moved k (omega arith) (omega arith)), e .higher k (omega arith) (omega arith))
       go (no p) (no q) (no s) =
           let j : ℕ = k - 1 in
-          omega
-          (arith, id-same (entered-above e k (omega arith) (omega arith)), id-same (e .moved k (omega arith) (omega arith)),
-           rises-lt (ids list) count r j k (omega arith) (omega arith))
+          omega (
+            arith,
+            id-same (entered-above e k (omega arith) (omega arith)),
+            id-same (e .moved k (omega arith) (omega arith)),
+            rises-lt (ids list) count r j k (omega arith) (omega arith),
+          )
 
 pub entered-formed : (w h : ℕ) {list after : List Marker} {count : ℕ} {m : Marker} → WellFormed w h list count → Entered list count m after
     → 1 ≤ m .id → On w h (m .x) (m .y) → count < length list → count < most-markers → WellFormed w h after (count + 1)
@@ -69,13 +72,19 @@ module _ {list after : List Marker} {count next id : ℕ} (c : Cleared list coun
       go : Dec (k + 1 < c .place) → Dec (k < c .place) → ids after k < ids after (k + 1)
       go (yes p) q = omega (arith, id-same (c .before k (omega arith)), id-same (c .before (k + 1) p), r k (omega arith))
       go (no p) (yes q) =
-          omega
-          (arith, id-same (c .before k q), id-same (c .moved (k + 1) (omega arith) (omega arith)),
-           rises-lt (ids list) count r k (k + 1 + 1) (omega arith) (omega arith))
+          omega (
+            arith,
+            id-same (c .before k q),
+            id-same (c .moved (k + 1) (omega arith) (omega arith)),
+            rises-lt (ids list) count r k (k + 1 + 1) (omega arith) (omega arith),
+          )
       go (no p) (no q) =
-          omega
-          (arith, id-same (c .moved k (omega arith) (omega arith)), id-same (c .moved (k + 1) (omega arith) (omega arith)),
-           r (k + 1) (omega arith))
+          omega (
+            arith,
+            id-same (c .moved k (omega arith) (omega arith)),
+            id-same (c .moved (k + 1) (omega arith) (omega arith)),
+            r (k + 1) (omega arith),
+          )
 
 pub cleared-formed : (w h : ℕ) {list after : List Marker} {count next id : ℕ} → WellFormed w h list count → Cleared list count id after
     → next + 1 ≡ count → WellFormed w h after next

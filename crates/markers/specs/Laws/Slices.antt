@@ -53,12 +53,13 @@ module _ (ids xs ys ids′ xs′ ys′ : List ℕ) (p : Parallel ids xs ys) (p�
   slots-same j k a b c = listOf-slot ids′ xs′ ys′ p′ j ∙ marker-same a b c ∙ sym (listOf-slot ids xs ys p k)
 
   pub listOf-one : listOf ids xs ys ≡ listOf ids′ xs′ ys′ → (ids ≡ ids′) × (xs ≡ xs′) × (ys ≡ ys′)
-  listOf-one e =
-      (ext-getD 0 ids ids′ long (λ k l. sym (listOf-id ids xs ys p k) ∙ ap (λ (m : List Marker). slot m k .id) e ∙ listOf-id ids′ xs′ ys′ p′ k),
-       ext-getD 0 xs xs′ (p .as-xs ∙ long ∙ sym (p′ .as-xs))
-       (λ k l. sym (listOf-x ids xs ys p k) ∙ ap (λ (m : List Marker). slot m k .x) e ∙ listOf-x ids′ xs′ ys′ p′ k),
-       ext-getD 0 ys ys′ (p .as-ys ∙ long ∙ sym (p′ .as-ys))
-       (λ k l. sym (listOf-y ids xs ys p k) ∙ ap (λ (m : List Marker). slot m k .y) e ∙ listOf-y ids′ xs′ ys′ p′ k))
+  listOf-one e = (
+    ext-getD 0 ids ids′ long (λ k l. sym (listOf-id ids xs ys p k) ∙ ap (λ (m : List Marker). slot m k .id) e ∙ listOf-id ids′ xs′ ys′ p′ k),
+    ext-getD 0 xs xs′ (p .as-xs ∙ long ∙ sym (p′ .as-xs))
+        (λ k l. sym (listOf-x ids xs ys p k) ∙ ap (λ (m : List Marker). slot m k .x) e ∙ listOf-x ids′ xs′ ys′ p′ k),
+    ext-getD 0 ys ys′ (p .as-ys ∙ long ∙ sym (p′ .as-ys))
+        (λ k l. sym (listOf-y ids xs ys p k) ∙ ap (λ (m : List Marker). slot m k .y) e ∙ listOf-y ids′ xs′ ys′ p′ k),
+  )
     where
       long : length ids ≡ length ids′
       long = sym (listOf-length ids xs ys p) ∙ ap length e ∙ listOf-length ids′ xs′ ys′ p′
@@ -127,10 +128,11 @@ slots-enter ids xs ys ids′ xs′ ys′ count id x y place r may o i a b e =
 -- An id in use leaves a slot to close in each slice.
 pub slots-may-close : (ids xs ys : List ℕ) (count id place : ℕ) → MayClear ids xs ys count id → PlaceOf ids count id place
     → MayClose ids count place × MayClose xs count place × MayClose ys count place
-slots-may-close ids xs ys count id place may o =
-    (record { below = used .0; lent = r .lent },
-     record { below = used .0; lent = omega (arith, r .lent, p .as-xs) },
-     record { below = used .0; lent = omega (arith, r .lent, p .as-ys) })
+slots-may-close ids xs ys count id place may o = (
+  record { below = used .0; lent = r .lent },
+  record { below = used .0; lent = omega (arith, r .lent, p .as-xs) },
+  record { below = used .0; lent = omega (arith, r .lent, p .as-ys) },
+)
   where
     p : Parallel ids xs ys
     p = may .parallel

@@ -106,7 +106,7 @@ cleared-added {list} {after} {count} {id} next lent c n =
     (λ k l. old k (omega (arith, c .below)) ∙ sym (c .before k l) ∙ sym (new k (omega (arith, c .below))))
     (old (c .place) (c .below))
     (λ k l q. old (suc k) (omega (arith, less)) ∙ ap (slot list) (sym (add-one k)) ∙ sym (c .moved k l (omega (arith, less)))
-      ∙ sym (new k (omega (arith, less))))
+    ∙ sym (new k (omega (arith, less))))
   where
     less : length (take next after) ≡ next
     less = length-take-le next after (omega (arith, c .size))
@@ -156,5 +156,5 @@ module _ {list after : List Marker} {count id : ℕ} (next : ℕ) (lent : count 
           let b : k < next = omega (arith, l, length-take next after) in
           let o = cleared-from c n k b in
           let i : slot list (o .place) .id ≡ slot list (c .place) .id =
-                ap (λ (j : Marker). j .id) (o .is ∙ sym (getD-take next after k blank b)) ∙ s .id ∙ e ∙ sym (c .is) in
+          ap (λ (j : Marker). j .id) (o .is ∙ sym (getD-take next after k blank b)) ∙ s .id ∙ e ∙ sym (c .is) in
           o .other (id-one list count r (o .place) (c .place) (o .below) (c .below) i)

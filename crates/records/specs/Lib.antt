@@ -1,0 +1,2 @@
+-- What the functions over a lent list of marker records promise.
+pub mod Promise
