@@ -118,7 +118,7 @@ pub fn clear(ids: &mut [u16], xs: &mut [u16], ys: &mut [u16], count: usize, id: 
 }
 
 // Sets every byte of the sheet to 0.
-fn wipe(sheet: &mut [u8])
+pub fn wipe(sheet: &mut [u8])
     ensures { λ _. ⌜ Wiped (now (sheet .entry)) (now (sheet .exit)) ⌝ }
 {
     let mut i = 0;

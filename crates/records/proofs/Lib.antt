@@ -1,0 +1,2 @@
+-- What the loops of the code keep true, as laws of lists of markers: one module for each loop.
+mod Forming

@@ -1,0 +1,7 @@
+-- Laws of walking, for the proofs by hand.
+pub mod Prelude
+pub mod Frames
+pub mod Turns
+pub mod Calls
+pub mod Slots
+pub mod Meeting
