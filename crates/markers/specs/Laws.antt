@@ -10,3 +10,4 @@ pub mod Making
 pub mod Entering
 pub mod Clearing
 pub mod Promises
+pub mod Stamping

@@ -4,4 +4,5 @@ pub mod Frames
 pub mod Turns
 pub mod Calls
 pub mod Slots
+pub mod Lending
 pub mod Meeting

@@ -2,7 +2,8 @@
 use Prim.Native.Nat.{_-_, _≤_}
 use native.Mathlib.Omega.{arith}
 use Rattle.field.specs.Workings.Sheet.{number-lt}
-use Rattle.markers.proofs.Stamping.{Stamping, stamping-start, stamping-more, stamping-end}
+use Rattle.markers.specs.Laws.Stamping.{Stamping, stamping-start, stamping-more}
+use Rattle.markers.proofs.Stamping.{nth, stamping-end}
 use Rattle.markers.proofs.stamp.Statement.{statement}
 use Rattle.markers.proofs.stamp.Tie as tie
 use Rattle.markers.proofs.stamp.Reads as reads
@@ -11,7 +12,7 @@ use Rattle.markers.proofs.stamp.Lts as lts
 -- `stamp` meets its contract: the loop keeps Stamping, and every marker's number lies within the sheet, which has one byte a crossing.
 
 abbrev Inv-loop : tie.InvT-loop
-Inv-loop xs ys count w h sheet₀ k₀ sheet k = Stamping w h xs ys k sheet × (k ≤ count)
+Inv-loop xs ys count w h sheet₀ k₀ sheet k = Stamping w h (nth xs) (nth ys) k sheet × (k ≤ count)
 
 abbrev μ-loop : tie.MeasureT-loop
 μ-loop xs ys count w h sheet₀ k₀ sheet k = count - k
