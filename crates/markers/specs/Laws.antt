@@ -11,3 +11,4 @@ pub mod Entering
 pub mod Clearing
 pub mod Promises
 pub mod Stamping
+pub mod Placing

@@ -1,5 +1,6 @@
 -- Laws of walking, for the proofs by hand.
 pub mod Prelude
+pub mod Steps
 pub mod Frames
 pub mod Turns
 pub mod Calls
