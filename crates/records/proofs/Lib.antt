@@ -2,3 +2,4 @@
 mod Forming
 mod Stamping
 mod Opening
+mod Closing
