@@ -1,106 +1,25 @@
--- A sheet being stamped, marker by marker, from the count down: its marks are the crossings of the markers from k on, each 1 however many stand
--- there.
-use mathlib.Core.Path.{_≡_, sym, ap, _∙_}
+-- All markers in use stamped, the sheet draws their rocks.
+use mathlib.Core.Path.{_≡_, sym, _∙_}
 use mathlib.Core.List.{List}
-use Prim.Native.Nat.{ℕ, suc, _+_, _*_, _<_, _≤_}
+use Prim.Native.Nat.{ℕ, _<_, _≤_}
 use native.Mathlib.Omega.{arith}
-use native.Mathlib.Nat.{mul-le-mul-right}
-use native.Mathlib.Decide.{decLt, ℕ-discrete}
-use lib.ListN.{length, getD, set, length-set}
-use lib.Seq.{getD-set-same, getD-set-other}
-use Rattle.field.specs.Map.{On, number, at}
+use lib.ListN.{length, getD}
+use Rattle.field.specs.Map.{On, at}
 use Rattle.field.specs.Labels.{Rock, RockOn}
-use Rattle.field.specs.Workings.Sheet.{Draws, number-lt}
+use Rattle.field.specs.Workings.Sheet.{Draws}
 use Rattle.markers.specs.List.{inUse}
 use Rattle.markers.specs.Promise.{listOf, Parallel, StampedWith}
-use Rattle.markers.specs.Slots.{Wiped}
 use Rattle.markers.specs.Laws.Slices.{listOf-length, listOf-x, listOf-y}
 use Rattle.markers.specs.Laws.Rocks.{Stands, rock-stands, stands-rock}
+use Rattle.markers.specs.Laws.Stamping.{Passed, Stamping}
 
--- Two crossings of the map with one number are one crossing.
-row-one : (w x y a b : ℕ) → x < w → y * w + x ≡ b * w + a → b ≤ y
-row-one w x y a b l e = go (decLt y b)
-  where
-    go : Dec (y < b) → b ≤ y
-    go (yes m) = absurd (omega (arith, mul-le-mul-right {m = suc y} {n = b} w m))
-    go (no m) = omega arith
+-- The k-th of a slice.
+abbrev pub nth : List ℕ → ℕ → ℕ
+nth xs k = getD xs k 0
 
-number-one : (w h x y a b : ℕ) → On w h x y → On w h a b → number w x y ≡ number w a b → (x ≡ a) × (y ≡ b)
-number-one w h x y a b o q e = (omega (arith, ap (λ (i : ℕ). i * w) same), same)
-  where
-    same : y ≡ b
-    same = omega (arith, row-one w x y a b (o .in-x) e, row-one w a b x y (q .in-x) (sym e))
-
--- A marker in use, from k on, stands on (x, y).
-pub record Passed (xs ys : List ℕ) (count k x y : ℕ) : Type 0 where
-  pub place : ℕ
-  pub from : k ≤ place
-  pub below : place < count
-  pub x-is : getD xs place 0 ≡ x
-  pub y-is : getD ys place 0 ≡ y
-
-pub record Stamping (w h : ℕ) (xs ys : List ℕ) (count k : ℕ) (sheet : List ℕ) : Type 0 where
-  pub upto : k ≤ count
-  pub size : length sheet ≡ h * w
-  pub ones : (i : ℕ) → getD sheet i 0 ≤ 1
-  pub sound : (x y : ℕ) → On w h x y → 0 < at sheet w x y → Passed xs ys count k x y
-  pub complete : (j : ℕ) → k ≤ j → j < count → 0 < at sheet w (getD xs j 0) (getD ys j 0)
-
-pub stamping-start : (w h count : ℕ) (xs ys s t : List ℕ) → length s ≡ h * w → Wiped s t → Stamping w h xs ys count count t
-stamping-start w h count xs ys s t l v =
-    record {
-      upto = omega arith;
-      size = v .size ∙ l;
-      ones = λ i. omega (arith, v .zeros i);
-      sound = λ x y o m. absurd (omega (arith, m, v .zeros (number w x y)));
-      complete = λ j m n. absurd (omega arith);
-    }
-
--- One turn stamps the crossing of marker k, the one below those passed.
-pub stamping-more : {w h count n k : ℕ} {xs ys sheet : List ℕ} → k + 1 ≡ n → On w h (getD xs k 0) (getD ys k 0) → Stamping w h xs ys count n sheet
-    → Stamping w h xs ys count k (set sheet (number w (getD xs k 0) (getD ys k 0)) 1)
-stamping-more {w} {h} {count} {n} {k} {xs} {ys} {sheet} d o s =
-    record {
-      upto = omega (arith, s .upto);
-      size = length-set sheet i 1 ∙ s .size;
-      ones = λ j. one j (ℕ-discrete j i);
-      sound = λ x y q m. from x y q m (ℕ-discrete (number w x y) i);
-      complete = λ j m l. stamped j m l (ℕ-discrete (number w (getD xs j 0) (getD ys j 0)) i);
-    }
-  where
-    i : ℕ
-    i = number w (getD xs k 0) (getD ys k 0)
-
-    same : getD (set sheet i 1) i 0 ≡ 1
-    same = getD-set-same sheet i 1 0 (omega (arith, number-lt w h (getD xs k 0) (getD ys k 0) o, s .size))
-
-    one : (j : ℕ) → Dec (j ≡ i) → getD (set sheet i 1) j 0 ≤ 1
-    one j (yes e) = omega (arith, ap (λ (p : ℕ). getD (set sheet i 1) p 0) e, same)
-    one j (no e) = omega (arith, getD-set-other sheet i j 1 0 e, s .ones j)
-
-    from : (x y : ℕ) → On w h x y → 0 < at (set sheet i 1) w x y → Dec (number w x y ≡ i) → Passed xs ys count k x y
-    from x y q m (yes e) =
-        let f = number-one w h x y (getD xs k 0) (getD ys k 0) q o e in
-        record { place = k; from = omega arith; below = omega (arith, s .upto); x-is = sym (f .0); y-is = sym (f .1) }
-    from x y q m (no e) =
-        let f = s .sound x y q (omega (arith, m, getD-set-other sheet i (number w x y) 1 0 e)) in
-        record { place = f .place; from = omega (arith, f .from); below = f .below; x-is = f .x-is; y-is = f .y-is }
-
-    -- A marker whose crossing is not the one stamped is not the one passed now.
-    before : (j : ℕ) → k ≤ j → ¬ (number w (getD xs j 0) (getD ys j 0) ≡ i) → Dec (j ≡ k) → n ≤ j
-    before j l f (yes e) = absurd (f (ap (λ (t : ℕ). number w (getD xs t 0) (getD ys t 0)) e))
-    before j l f (no e) = omega arith
-
-    stamped : (j : ℕ) → k ≤ j → j < count → Dec (number w (getD xs j 0) (getD ys j 0) ≡ i) → 0 < at (set sheet i 1) w (getD xs j 0) (getD ys j 0)
-    stamped j m l (yes e) = omega (arith, ap (λ (p : ℕ). getD (set sheet i 1) p 0) e, same)
-    stamped j m l (no e) =
-        omega
-        (arith, getD-set-other sheet i (number w (getD xs j 0) (getD ys j 0)) 1 0 e, s .complete j (before j m e (ℕ-discrete j k)) l)
-
--- All markers in use passed, the sheet draws their rocks.
-pub stamping-end : {w h count k : ℕ} {xs ys sheet : List ℕ} → count ≤ length xs → k ≤ 0 → Stamping w h xs ys count k sheet
-    → StampedWith w h xs ys count sheet
-stamping-end {w} {h} {count} {k} {xs} {ys} {sheet} lent e s = record { size = s .size; ones = s .ones; rocks = drawn }
+pub stamping-end : {w h count k : ℕ} {xs ys sheet : List ℕ} → count ≤ length xs → ((j : ℕ) → j < count → On w h (getD xs j 0) (getD ys j 0))
+    → k ≡ count → Stamping w h (nth xs) (nth ys) k sheet → StampedWith w h xs ys count sheet
+stamping-end {w} {h} {count} {k} {xs} {ys} {sheet} lent on e s = record { size = s .size; ones = s .ones; rocks = drawn }
   where
     drawn : (ids : List ℕ) → Parallel ids xs ys → Draws w h (RockOn (Rock (inUse (listOf ids xs ys) count)) w h) sheet
     drawn ids p =
@@ -112,11 +31,11 @@ stamping-end {w} {h} {count} {k} {xs} {ys} {sheet} lent e s = record { size = s 
         fits : count ≤ length (listOf ids xs ys)
         fits = omega (arith, listOf-length ids xs ys p, p .as-xs)
 
-        stood : (x y : ℕ) → Passed xs ys count k x y → Stands (listOf ids xs ys) count x y
+        stood : (x y : ℕ) → Passed (nth xs) (nth ys) k x y → Stands (listOf ids xs ys) count x y
         stood x y f =
             record {
               place = f .place;
-              below = f .below;
+              below = omega (arith, f .below);
               x-is = listOf-x ids xs ys p (f .place) ∙ f .x-is;
               y-is = listOf-y ids xs ys p (f .place) ∙ f .y-is;
             }
@@ -125,4 +44,4 @@ stamping-end {w} {h} {count} {k} {xs} {ys} {sheet} lent e s = record { size = s 
         marked x y f =
             let a : getD xs (f .place) 0 ≡ x = sym (listOf-x ids xs ys p (f .place)) ∙ f .x-is in
             let b : getD ys (f .place) 0 ≡ y = sym (listOf-y ids xs ys p (f .place)) ∙ f .y-is in
-            rw (← a, ← b) (s .complete (f .place) (omega arith) (f .below))
+            rw (← a, ← b) (s .complete (f .place) (omega (arith, f .below)))

@@ -18,3 +18,5 @@ pub mod Times
 pub mod Rocks
 pub mod Slices
 pub mod Promises
+pub mod Stamping
+pub mod Placing

@@ -116,7 +116,7 @@ pub fn clear(ids: &mut [u16], xs: &mut [u16], ys: &mut [u16], count: usize, id: 
 }
 
 // Sets every byte of the sheet to 0.
-fn wipe(sheet: &mut [u8])
+pub fn wipe(sheet: &mut [u8])
     ensures { λ _. ⌜ Wiped (now (sheet .entry)) (now (sheet .exit)) ⌝ }
 {
     let mut i = 0;
@@ -132,9 +132,9 @@ pub fn stamp(xs: &[u16], ys: &[u16], count: usize, w: usize, h: usize, sheet: &m
     ensures { λ _. ⌜ StampedWith w h (now (xs .entry)) (now (ys .entry)) count (now (sheet .exit)) ⌝ }
 {
     wipe(sheet);
-    let mut k = count;
-    while 0 < k {
-        k -= 1;
+    let mut k = 0;
+    while k < count {
         sheet[(ys[k] as usize) * w + (xs[k] as usize)] = 1;
+        k += 1;
     }
 }

@@ -1,12 +1,17 @@
 -- `place_of` meets its contract: the loop keeps Placing, and the middle lies from lo on and below hi, so that the two close up.
 use Prim.Native.Nat.{_-_}
 use native.Mathlib.Omega.{arith}
-use Rattle.markers.proofs.Placing.{Placing, placing-start, placing-up, placing-down, placing-end}
+use Rattle.markers.specs.Laws.Placing.{Placing, placing-start, placing-up, placing-down}
+use Rattle.markers.proofs.Placing.{idOf, placing-end}
 use Rattle.markers.proofs.place_of.Statement.{statement}
 use Rattle.markers.proofs.place_of.Tie as tie
 
+-- `place_of` meets its contract: the loop keeps Placing, and the middle lies from lo on and below hi, so that the two close up.
+
+-- `place_of` meets its contract: the loop keeps Placing, and the middle lies from lo on and below hi, so that the two close up.
+
 abbrev Inv-loop : tie.InvT-loop
-Inv-loop ids count id lo₀ hi₀ lo hi = Placing ids count id lo hi
+Inv-loop ids count id lo₀ hi₀ lo hi = Placing (idOf ids) count id lo hi
 
 abbrev μ-loop : tie.MeasureT-loop
 μ-loop ids count id lo₀ hi₀ lo hi = hi - lo
@@ -33,20 +38,16 @@ loop-less : tie.Need-loop-less Inv-loop μ-loop
 loop-less c = omega arith
 
 loop-again : tie.Need-loop-again Inv-loop μ-loop
-loop-again c =
-    let l = c .before .before .before in
-    placing-up _ (l .before .pre) (omega arith) (omega arith) (l .loop .inv)
+loop-again c = placing-up _ (c .before .before .before .before .pre .rising) (omega arith) (c .if1 .taken) (c .before .before .before .loop .inv)
 
 loop-less-2 : tie.Need-loop-less-2 Inv-loop μ-loop
 loop-less-2 c = omega arith
 
 loop-again-2 : tie.Need-loop-again-2 Inv-loop μ-loop
-loop-again-2 c =
-    let l = c .before .before .before in
-    placing-down _ (l .before .pre) (omega arith) (omega arith) (omega arith) (l .loop .inv)
+loop-again-2 c = placing-down _ (c .before .before .before .before .pre .rising) (omega arith) (omega arith) (c .if1 .left) (c .before .before .before .loop .inv)
 
 returns : tie.Need-returns Inv-loop μ-loop
-returns c = placing-end (omega arith) (c .before .loop .inv)
+returns c = placing-end (c .loop-test .left) (c .before .loop .inv)
 
 pub place-of-spec : {M : Type 1} → statement M
 place-of-spec =

@@ -1,0 +1,87 @@
+-- A sheet being stamped, marker by marker: its marks are the crossings of the markers passed, each 1 however many stand there. The k-th marker stands on
+-- (x k, y k), however the list is lent.
+use mathlib.Core.Path.{_≡_, sym, ap, _∙_}
+use mathlib.Core.List.{List}
+use Prim.Native.Nat.{ℕ, suc, _+_, _*_, _<_, _≤_}
+use native.Mathlib.Omega.{arith}
+use native.Mathlib.Nat.{mul-le-mul-right}
+use native.Mathlib.Decide.{decLt, ℕ-discrete}
+use lib.ListN.{length, getD, set, length-set}
+use lib.Seq.{getD-set-same, getD-set-other}
+use Rattle.field.specs.Map.{On, number, at}
+use Rattle.field.specs.Workings.Sheet.{number-lt}
+use Rattle.markers.specs.Slots.{Wiped}
+
+-- Two crossings of the map with one number are one crossing.
+row-one : (w x y a b : ℕ) → x < w → y * w + x ≡ b * w + a → b ≤ y
+row-one w x y a b l e = go (decLt y b)
+  where
+    go : Dec (y < b) → b ≤ y
+    go (yes m) = absurd (omega (arith, mul-le-mul-right {m = suc y} {n = b} w m))
+    go (no m) = omega arith
+
+number-one : (w h x y a b : ℕ) → On w h x y → On w h a b → number w x y ≡ number w a b → (x ≡ a) × (y ≡ b)
+number-one w h x y a b o q e = (omega (arith, ap (λ (i : ℕ). i * w) same), same)
+  where
+    same : y ≡ b
+    same = omega (arith, row-one w x y a b (o .in-x) e, row-one w a b x y (q .in-x) (sym e))
+
+-- One of the first k markers stands on (a, b).
+pub record Passed (x y : ℕ → ℕ) (k a b : ℕ) : Type 0 where
+  pub place : ℕ
+  pub below : place < k
+  pub x-is : x place ≡ a
+  pub y-is : y place ≡ b
+
+pub record Stamping (w h : ℕ) (x y : ℕ → ℕ) (k : ℕ) (sheet : List ℕ) : Type 0 where
+  pub size : length sheet ≡ h * w
+  pub ones : (i : ℕ) → getD sheet i 0 ≤ 1
+  pub sound : (a b : ℕ) → On w h a b → 0 < at sheet w a b → Passed x y k a b
+  pub complete : (j : ℕ) → j < k → 0 < at sheet w (x j) (y j)
+
+pub stamping-start : (w h : ℕ) (x y : ℕ → ℕ) (s t : List ℕ) → length s ≡ h * w → Wiped s t → Stamping w h x y 0 t
+stamping-start w h x y s t l v =
+    record {
+      size = v .size ∙ l;
+      ones = λ i. omega (arith, v .zeros i);
+      sound = λ a b o m. absurd (omega (arith, m, v .zeros (number w a b)));
+      complete = λ j m. absurd (omega arith);
+    }
+
+-- One turn stamps the k-th marker's crossing.
+pub stamping-more : {w h k : ℕ} {x y : ℕ → ℕ} {sheet : List ℕ} → On w h (x k) (y k) → Stamping w h x y k sheet
+    → Stamping w h x y (k + 1) (set sheet (number w (x k) (y k)) 1)
+stamping-more {w} {h} {k} {x} {y} {sheet} o s =
+    record {
+      size = length-set sheet n 1 ∙ s .size;
+      ones = λ i. one i (ℕ-discrete i n);
+      sound = λ a b q m. from a b q m (ℕ-discrete (number w a b) n);
+      complete = λ j m. stamped j m (ℕ-discrete (number w (x j) (y j)) n);
+    }
+  where
+    n : ℕ
+    n = number w (x k) (y k)
+
+    same : getD (set sheet n 1) n 0 ≡ 1
+    same = getD-set-same sheet n 1 0 (omega (arith, number-lt w h (x k) (y k) o, s .size))
+
+    one : (i : ℕ) → Dec (i ≡ n) → getD (set sheet n 1) i 0 ≤ 1
+    one i (yes e) = omega (arith, ap (λ (j : ℕ). getD (set sheet n 1) j 0) e, same)
+    one i (no e) = omega (arith, getD-set-other sheet n i 1 0 e, s .ones i)
+
+    from : (a b : ℕ) → On w h a b → 0 < at (set sheet n 1) w a b → Dec (number w a b ≡ n) → Passed x y (k + 1) a b
+    from a b q m (yes e) =
+        let f = number-one w h a b (x k) (y k) q o e in
+        record { place = k; below = omega arith; x-is = sym (f .0); y-is = sym (f .1) }
+    from a b q m (no e) =
+        let f = s .sound a b q (omega (arith, m, getD-set-other sheet n (number w a b) 1 0 e)) in
+        record { place = f .place; below = omega (arith, f .below); x-is = f .x-is; y-is = f .y-is }
+
+    stamped : (j : ℕ) → j < k + 1 → Dec (number w (x j) (y j) ≡ n) → 0 < at (set sheet n 1) w (x j) (y j)
+    stamped j m (yes e) = omega (arith, ap (λ (i : ℕ). getD (set sheet n 1) i 0) e, same)
+    stamped j m (no e) =
+        omega (arith, getD-set-other sheet n (number w (x j) (y j)) 1 0 e, s .complete j (before j m (ℕ-discrete j k) e))
+      where
+        before : (i : ℕ) → i < k + 1 → Dec (i ≡ k) → ¬ (number w (x i) (y i) ≡ n) → i < k
+        before i l (yes d) f = absurd (f (ap (λ (t : ℕ). number w (x t) (y t)) d))
+        before i l (no d) f = omega arith

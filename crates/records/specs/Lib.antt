@@ -1,0 +1,3 @@
+-- What the functions over a lent list of marker records promise.
+pub mod Promise
+pub mod Steps

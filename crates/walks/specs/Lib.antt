@@ -1,0 +1,9 @@
+-- Laws of walking, for the proofs by hand.
+pub mod Prelude
+pub mod Steps
+pub mod Frames
+pub mod Turns
+pub mod Calls
+pub mod Slots
+pub mod Lending
+pub mod Meeting
