@@ -10,7 +10,6 @@ use Rattle.field.specs.Workings.Looking.{hopTo}
 use Rattle.field.specs.Workings.Reaching.{Choice, eastWestIn, northSouthIn, chosenOf}
 use Rattle.drives.specs.declared.chooser.Choice as drives
 use Rattle.drives.specs.Hops.{Chose}
-use Rattle.drives.proofs.LookLaws.{off-split}
 
 -- The top bit of a state is 0 exactly if the state is below half the range.
 pub top-zero : {t : ℕ} → t < 2147483648 → top t ≡ 0
@@ -20,15 +19,6 @@ top-zero l = omega arith
 pub top-other : {t : ℕ} → 2147483648 ≤ t → ¬ (top t ≡ 0)
 unfolding top
 top-other l e = omega arith
-
--- A candidate along the row is in another column, and one along the column in another row.
-pub east-west-away : (g : List ℕ) (w h dx x y : ℕ) → eastWestIn g w h dx x y ≡ true → ¬ (x ≡ dx)
-unfolding eastWestIn
-east-west-away g w h dx x y e = off-split x dx _ e .0
-
-pub north-south-away : (g : List ℕ) (w h dy x y : ℕ) → northSouthIn g w h dy x y ≡ true → ¬ (y ≡ dy)
-unfolding northSouthIn
-north-south-away g w h dy x y e = off-split y dy _ e .0
 
 module _ (g : List ℕ) (w h dx dy x y z : ℕ) where
   -- c is the choice if its parts are k's, and k is the choice.

@@ -1,17 +1,19 @@
 -- Laws of numbers and of looks at a sheet: what the tests of a hop towards an end come to.
 use mathlib.Core.Path.{_≡_, refl, sym, ap, _∙_}
-use mathlib.Core.Bool.{Bool, true, false, cond, _&&_, true≢false}
+use mathlib.Core.Bool.{Bool, true, false, _&&_}
 use mathlib.Core.List.{List}
+use mathlib.Core.Logic.{_↔_, _≢_}
 use Prim.Native.Nat.{ℕ, _<_}
 use native.Mathlib.Omega.{arith}
 use native.Mathlib.Nat.{mul-le-mul-right}
 use native.Mathlib.Decide.{ℕ-discrete}
 use lib.Dec.{ltb, eqb}
 use lib.ListN.{getD}
-use borrow.Author.Tests.{lt-ltb, le-ltb, eq-eqb, ne-eqb, eqb-false}
+use borrow.Author.Tests.{ltb-true, lt-ltb, le-ltb, eq-eqb, ne-eqb}
 use Rattle.field.specs.Map.{side, Sides, On, number, at, Apart}
-use Rattle.field.specs.Workings.Marks.{or-right}
-use Rattle.field.specs.Workings.Sheet.{bit, lit}
+use Rattle.field.specs.Workings.Tests.{off-looks}
+use Rattle.field.specs.Workings.Sheet.{Marked, bit, lit}
+use Rattle.field.specs.Workings.Marks.{lit-marked, marked-lit, or-right}
 use Rattle.field.specs.Workings.Looking.{hopTo}
 use Rattle.field.specs.Workings.Reaching.{eastWestIn, northSouthIn}
 use Rattle.drives.specs.Passes.{Looked, backed}
@@ -32,16 +34,17 @@ lit-on g w h x y o = simp (lt-ltb x w (o .in-x), lt-ltb y h (o .in-y)) (bit-test
     bit-test true = refl
     bit-test false = refl
 
--- A test that is made only where p is not d.
-pub off-split : (p d : ℕ) (t : Bool) → cond (eqb p d) false t ≡ true → (¬ (p ≡ d)) × (t ≡ true)
-off-split p d t e = go (eqb p d) refl e
-  where
-    go : (u : Bool) → eqb p d ≡ u → cond u false t ≡ true → (¬ (p ≡ d)) × (t ≡ true)
-    go true f k = absurd (true≢false (sym k))
-    go false f k = (eqb-false p d f, k)
+-- The tests for a mark one hop along the row, and along the column, tell that there is such a hop and that it leads to a mark.
+marked-test : (g : List ℕ) (w h a b : ℕ) → Marked g w h a b ↔ ltb 0 (lit g w h a b) ≡ true
+marked-test g w h a b = (λ m. lt-ltb 0 (lit g w h a b) (omega (arith, marked-lit g w h a b m)), λ e. lit-marked g w h a b (ltb-true _ _ e))
 
-pub off-both : (p d : ℕ) (t : Bool) → ¬ (p ≡ d) → t ≡ true → cond (eqb p d) false t ≡ true
-off-both p d t n e = simp (ne-eqb p d n, e)
+pub east-west-tells : (g : List ℕ) (w h ex x y : ℕ) → ((x ≢ ex) × Marked g w h (hopTo x ex) y) ↔ eastWestIn g w h ex x y ≡ true
+unfolding eastWestIn
+east-west-tells g w h ex x y = off-looks _ (marked-test g w h (hopTo x ex) y) x ex
+
+pub north-south-tells : (g : List ℕ) (w h ey x y : ℕ) → ((y ≢ ey) × Marked g w h x (hopTo y ey)) ↔ northSouthIn g w h ey x y ≡ true
+unfolding northSouthIn
+north-south-tells g w h ey x y = off-looks _ (marked-test g w h x (hopTo y ey)) y ey
 
 module _ {w h ex ey x y : ℕ} {g : List ℕ} (k : Looked w h g ex ey x y) where
   -- The hop towards an end stays on the map.
@@ -51,7 +54,7 @@ module _ {w h ex ey x y : ℕ} {g : List ℕ} (k : Looked w h g ex ey x y) where
   pub column-hop-on : ¬ (y ≡ ey) → On w h x (hopTo y ey)
   column-hop-on n = record { in-x = k .to .in-x; in-y = hop-lt n (k .to .in-y) (k .from .in-y) }
 
-  -- The tests for a mark one hop along the row, and along the column; i is the number of the crossing that is looked at.
+  -- What the two tests look at; i is the number of the crossing.
   pub east-west-off : x ≡ ex → false ≡ eastWestIn g w h ex x y
   unfolding eastWestIn
   east-west-off e = simp (eq-eqb x ex e)

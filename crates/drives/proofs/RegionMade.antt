@@ -14,8 +14,9 @@ use Rattle.field.specs.Workings.GridLaws.{Toward, gap-turned, gap-detour, near-
 use Rattle.field.specs.Workings.DriveLaws.{hop, has-drive-open, has-drive-turned, has-drive-step}
 use Rattle.field.specs.Workings.RegionLaws.{region-split, has-drive-in}
 use Rattle.drives.specs.Passes.{Spanned, Pass, free, Wiped}
+use Rattle.drives.proofs.WayLaws.{way-turned}
 use Rattle.drives.proofs.LookLaws.{zero-bit, other-bit}
-use Rattle.drives.proofs.BackLaws.{spanned-toward, pass-means}
+use Rattle.drives.proofs.PassMeaning.{spanned-toward, pass-means}
 
 in-out-map : {P Q : Type 0} {v : ℕ} → (P → Q) → (Q → P) → InOut P v → InOut Q v
 in-out-map f g (is-in e p) = is-in e (f p)
@@ -23,11 +24,7 @@ in-out-map f g (is-out e n) = is-out e (λ q. n (g q))
 
 -- The rectangle is the same from either end, and holds the crossings at which there is no detour.
 spanned-turned : {ex ey fx fy x y : ℕ} → Spanned ex ey fx fy x y → Spanned fx fy ex ey x y
-spanned-turned {ex} {ey} {fx} {fy} {x} {y} s =
-    record {
-      across = record { direct = omega (arith, s .across .direct, gap-turned ex x, gap-turned x fx, gap-turned ex fx) };
-      along = record { direct = omega (arith, s .along .direct, gap-turned ey y, gap-turned y fy, gap-turned ey fy) };
-    }
+spanned-turned s = record { across = way-turned (s .across); along = way-turned (s .along) }
 
 spanned-direct : {ex ey fx fy x y : ℕ} → Spanned ex ey fx fy x y → dist ex ey x y + dist x y fx fy ≡ dist ex ey fx fy
 spanned-direct s = omega (arith, s .across .direct, s .along .direct)

@@ -7,15 +7,12 @@ use mathlib.Core.Logic.{_⊎_, inl, inr}
 use Prim.Native.Nat.{ℕ, suc, _+_, _<_, _≤_}
 use native.Mathlib.Omega.{arith}
 use native.Mathlib.Numerals.{add-one}
-use lib.Dec.{ltb}
 use lib.ListN.{length, take, drop, set, length-set}
 use lib.Seq.{take-suc-set, drop-set-lt}
-use borrow.Author.Tests.{lt-ltb}
 use Rattle.field.specs.Map.{side, number, Apart, gap, dist}
 use Rattle.field.specs.Drives.{HasDrive, InRegion, RegionSheet}
 use Rattle.field.specs.Chooser.{Candidate}
-use Rattle.field.specs.Workings.Sheet.{Marked, lit}
-use Rattle.field.specs.Workings.Marks.{drawn-lit}
+use Rattle.field.specs.Workings.Sheet.{Marked}
 use Rattle.field.specs.Workings.Reaching.{eastWestIn, northSouthIn, chosenOf, driveOf}
 use Rattle.field.specs.Workings.GridLaws.{Toward, along-row, along-column, dist-none}
 use Rattle.field.specs.Workings.RegionLaws.{has-drive-in, region-sheet-draws}
@@ -25,22 +22,16 @@ use Rattle.drives.specs.declared.chooser.Choice.{Choice}
 use Rattle.drives.specs.Promise.{Asked, Filling}
 use Rattle.drives.specs.Passes.{Looked}
 use Rattle.drives.specs.Hops.{Choosable, Chose, Steered, Written}
-use Rattle.drives.proofs.LookLaws.{off-both}
+use Rattle.drives.proofs.LookLaws.{east-west-tells, north-south-tells}
 
 -- In the region, and not at d, one of the two tests for a candidate is passed.
 module _ (w h : ℕ) (C : ℕ → ℕ → Type 0) (sx sy dx dy : ℕ) (g : List ℕ) (G : RegionSheet w h C sx sy dx dy g) where
-  in-test : {a b c d : ℕ} → a ≡ c → b ≡ d → InRegion w h C sx sy dx dy a b → ltb 0 (lit g w h c d) ≡ true
-  in-test {a} {b} {c} {d} p q r =
-      lt-ltb 0 (lit g w h c d)
-      (omega (arith, drawn-lit w h (InRegion w h C sx sy dx dy) g (region-sheet-draws w h C sx sy dx dy G) a b r, ap (λ (i : ℕ). lit g w h i b) p, ap (λ (j : ℕ). lit g w h c j) q))
-
   candidate-tested : {x y a b : ℕ} → Candidate w h C sx sy dx dy x y a b → (eastWestIn g w h dx x y ≡ true) ⊎ (northSouthIn g w h dy x y ≡ true)
-  unfolding eastWestIn northSouthIn
-  candidate-tested {x} {y} {a} {b} k = go (candidate-toward w h C sx sy dx dy k)
+  candidate-tested {x} {y} {a} {b} k = go (candidate-toward w h C sx sy dx dy k) (region-sheet-draws w h C sx sy dx dy G .complete a b (k .within))
     where
-      go : Toward dx dy x y a b → (eastWestIn g w h dx x y ≡ true) ⊎ (northSouthIn g w h dy x y ≡ true)
-      go (along-row n p q) = inl (off-both x dx _ n (in-test p q (k .within)))
-      go (along-column n p q) = inr (off-both y dy _ n (in-test p q (k .within)))
+      go : Toward dx dy x y a b → Marked g w h a b → (eastWestIn g w h dx x y ≡ true) ⊎ (northSouthIn g w h dy x y ≡ true)
+      go (along-row n p q) m = inl (east-west-tells g w h dx x y .0 (n, rw (p, q) at m))
+      go (along-column n p q) m = inr (north-south-tells g w h dy x y .0 (n, rw (p, q) at m))
 
 -- The drive is written as far as the k-th hop, which leads to (x, y), in that state.
 pub record Onward (w h : ℕ) (g : List ℕ) (sx sy dx dy z : ℕ) (route route′ : List ℕ) (x y state k : ℕ) : Type 0 where

@@ -1,4 +1,5 @@
--- How a pass walks over its rectangle: in a row column by column, and row by row, each farther from the pass's end than the one before.
+-- How a pass walks over its rectangle: in a row column by column, and row by row, each farther from the pass's end than the one before. A hop
+-- towards the end never leads farther from it, so what is passed is settled for good.
 use mathlib.Core.Path.{_≡_, refl, ap, _∙_}
 use mathlib.Core.Bool.{cond}
 use mathlib.Core.List.{List}
@@ -36,6 +37,7 @@ pub record AtRow (w h ex ey fx fy : ℕ) (v : ℕ → ℕ → ℕ) (g g′ : Lis
   pub along : OnWay ey fy y
   pub done : Pass w h ex ey (RowsTo ex ey fx fy (gap ey y)) v g g′
 
+-- A call over two sheets is also one over the region sheet alone.
 pub asked-looked : {w h ex ey fx fy : ℕ} {s g : List ℕ} → Asked w h s g ex ey fx fy → Looked w h g ex ey fx fy
 asked-looked k = record { sides = k .sides; size = k .region; from = k .from; to = k .to }
 
@@ -45,6 +47,7 @@ toward-le {ex} {ey} (along-row n p q) = omega (arith, back-nearer n, ap (gap ex)
 toward-le {ex} {ey} (along-column n p q) = omega (arith, back-nearer n, ap (gap ex) p, ap (gap ey) q)
 
 module _ (w h ex ey fx : ℕ) where
+  -- Column x follows the columns nearer the end.
   one-follows : {x y : ℕ} → OnWay ex fx x → Follows ex ey (RowTo ex fx (gap ex x) y) (λ a b. (a ≡ x) × (b ≡ y)) (RowTo ex fx (gap ex x + 1) y)
   one-follows {x} {y} s =
       record {
@@ -99,6 +102,7 @@ module _ (w h ex ey fx : ℕ) where
         (settled k f s e)
 
 module _ (w h ex ey fx fy : ℕ) where
+  -- Row y follows the rows nearer the end.
   row-follows : {y : ℕ} → OnWay ey fy y → Follows ex ey (RowsTo ex ey fx fy (gap ey y)) (InRow ex fx y) (RowsTo ex ey fx fy (gap ey y + 1))
   row-follows {y} s =
       record {
@@ -113,6 +117,7 @@ module _ (w h ex ey fx fy : ℕ) where
       go a b r (yes l) = inl (record { across = r .across; along = r .along; behind = l })
       go a b r (no l) = inr (record { across = r .across; row = way-one (r .along) s (omega (arith, r .behind)) })
 
+  -- The row that the walk has come to is on the map.
   pub rows-looked : {y : ℕ} {v : ℕ → ℕ → ℕ} {g g₁ : List ℕ} → Looked w h g ex ey fx fy → AtRow w h ex ey fx fy v g g₁ y → Looked w h g₁ ex ey fx y
   rows-looked k s =
       record {

@@ -6,9 +6,10 @@ use native.Mathlib.Omega.{arith}
 use borrow.Author.Tests.{lt-ltb, le-ltb}
 use Rattle.field.specs.Map.{gap}
 use Rattle.field.specs.Workings.Looking.{hopTo}
-use Rattle.field.specs.Workings.GridLaws.{Order, less, same, more, order, gap-none}
+use Rattle.field.specs.Workings.GridLaws.{Order, less, same, more, order, gap-none, gap-turned}
 use Rattle.drives.specs.Passes.{OnWay}
 
+-- A hop towards d, from below it and from above it.
 pub hop-up : {p d : ℕ} → p < d → hopTo p d ≡ p + 1
 unfolding hopTo
 hop-up {p} {d} l = simp (lt-ltb p d l)
@@ -42,7 +43,11 @@ unfolding gap
 between-way (up l m) = record { direct = omega arith }
 between-way (down l m) = record { direct = omega arith }
 
--- Both ends are on the way, and what is on the way is on the map.
+-- The way back is the same way.
+pub way-turned : {a b p : ℕ} → OnWay a b p → OnWay b a p
+way-turned {a} {b} {p} e = record { direct = omega (arith, e .direct, gap-turned a p, gap-turned p b, gap-turned a b) }
+
+-- The start is on the way, and what is on the way is on the map.
 pub way-start : (a b : ℕ) → OnWay a b a
 way-start a b = record { direct = omega (arith, gap-none {a = a} {b = a} refl) }
 
@@ -53,7 +58,7 @@ way-lt {a} {b} {p} {w} e l m = go (way-between e)
     go (up s t) = omega arith
     go (down s t) = omega arith
 
--- A coordinate on the way is no farther from the start than the end is, and is fixed by how far it is.
+-- A coordinate on the way is fixed by how far it is from the start.
 pub way-one : {a b p q : ℕ} → OnWay a b p → OnWay a b q → gap a p ≡ gap a q → p ≡ q
 unfolding gap
 way-one {a} {b} {p} {q} e f s = go (way-between e) (way-between f)
@@ -84,14 +89,7 @@ pub way-less : {a b p q : ℕ} → OnWay a b p → ¬ (p ≡ b) → q ≡ hopTo 
 way-less {a} {b} {p} {q} e n i =
     omega (arith, e .direct, way-hop e n .direct, way-farther e n, ap (λ (k : ℕ). gap k b) i)
 
--- A hop back towards the start is on the way too, and one nearer.
-pub way-back : {a b p : ℕ} → OnWay a b p → ¬ (p ≡ a) → OnWay a b (hopTo p a)
-way-back {a} {b} {p} e n = go (way-between e)
-  where
-    go : Between a b p → OnWay a b (hopTo p a)
-    go (up k l) = let m : a < p = omega arith in between-way (up (omega (arith, hop-down m)) (omega (arith, hop-down m)))
-    go (down k l) = let m : p < a = omega arith in between-way (down (omega (arith, hop-up m)) (omega (arith, hop-up m)))
-
+-- A hop towards the start is one nearer it.
 pub back-nearer : {a p : ℕ} → ¬ (p ≡ a) → gap a (hopTo p a) + 1 ≡ gap a p
 unfolding gap
 back-nearer {a} {p} n = go (order p a)

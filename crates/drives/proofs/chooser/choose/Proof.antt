@@ -2,8 +2,8 @@
 use mathlib.Core.Path.{refl, sym, _∙_}
 use mathlib.Core.Bool.{false≢true}
 use mathlib.Core.Logic.{⊎-elim}
-use Rattle.drives.proofs.LookLaws.{told}
-use Rattle.drives.proofs.ChoiceLaws.{top-zero, top-other, east-west-away, north-south-away, chose, chosen-low, chosen-high, chosen-row, chosen-column}
+use Rattle.drives.proofs.LookLaws.{east-west-tells, north-south-tells, told}
+use Rattle.drives.proofs.ChoiceLaws.{top-zero, top-other, chose, chosen-low, chosen-high, chosen-row, chosen-column}
 use borrow.Author.Needs.{needs}
 use Rattle.drives.proofs.chooser.choose.Statement.{statement}
 use Rattle.drives.proofs.chooser.choose.Tie as tie
@@ -20,7 +20,7 @@ draw-requires c κs = search needs
 hop-requires : tie.Need-hop-requires
 hop-requires c κs =
     let e = c .before .before .before in
-    east-west-away _ _ _ _ _ _ (told (e .before .before .east-west .ensures) (e .if1 .taken))
+    east-west-tells _ _ _ _ _ _ .1 (told (e .before .before .east-west .ensures) (e .if1 .taken)) .0
 
 returns : tie.Need-returns
 returns c =
@@ -35,7 +35,7 @@ returns c =
 hop-requires-2 : tie.Need-hop-requires-2
 hop-requires-2 c κs =
     let n = c .before .before in
-    north-south-away _ _ _ _ _ _ (told (n .before .before .north-south .ensures) (n .if2 .taken))
+    north-south-tells _ _ _ _ _ _ .1 (told (n .before .before .north-south .ensures) (n .if2 .taken)) .0
 
 returns-2 : tie.Need-returns-2
 returns-2 c =
@@ -50,7 +50,7 @@ returns-2 c =
 hop-requires-3 : tie.Need-hop-requires-3
 hop-requires-3 c κs =
     let e = c .before in
-    east-west-away _ _ _ _ _ _ (told (e .before .before .east-west .ensures) (e .if1 .taken))
+    east-west-tells _ _ _ _ _ _ .1 (told (e .before .before .east-west .ensures) (e .if1 .taken)) .0
 
 returns-3 : tie.Need-returns-3
 returns-3 c =
@@ -63,8 +63,9 @@ returns-3 c =
 hop-requires-4 : tie.Need-hop-requires-4
 hop-requires-4 c κs =
     let l = c .before in
-    north-south-away _ _ _ _ _ _
+    north-south-tells _ _ _ _ _ _ .1
     (⊎-elim (λ p. absurd (false≢true (sym (told (l .before .east-west .ensures) (c .if1 .left)) ∙ p))) (λ p. p) (l .before .before .before .pre .some))
+    .0
 
 returns-4 : tie.Need-returns-4
 returns-4 c =

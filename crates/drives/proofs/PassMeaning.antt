@@ -6,21 +6,21 @@ use mathlib.Core.List.{List}
 use mathlib.Core.Logic.{_⊎_, inl, inr}
 use Prim.Native.Nat.{ℕ, zero, suc, _+_, _<_}
 use native.Mathlib.Omega.{arith}
-use lib.Dec.{ltb, eqb}
-use borrow.Author.Tests.{ltb-true, lt-ltb, eqb-true, eq-eqb}
+use lib.Dec.{eqb}
+use borrow.Author.Tests.{eqb-true, eq-eqb}
 use Rattle.field.specs.Map.{On, at, dist}
 use Rattle.field.specs.Labels.{Open}
 use Rattle.field.specs.Drives.{HasDrive, InOut, is-in, is-out}
-use Rattle.field.specs.Workings.Sheet.{Marked, lit}
-use Rattle.field.specs.Workings.Marks.{lit-marked, marked-lit, and-split, and-both, or-split, or-right}
+use Rattle.field.specs.Workings.Sheet.{Marked}
+use Rattle.field.specs.Workings.Marks.{and-split, and-both, or-split, or-right}
 use Rattle.field.specs.Workings.Tests.{or-left}
 use Rattle.field.specs.Workings.Looking.{hopTo}
 use Rattle.field.specs.Workings.Reaching.{eastWestIn, northSouthIn}
 use Rattle.field.specs.Workings.GridLaws.{Toward, along-row, along-column, nearer-toward, toward-near, toward-nearer}
 use Rattle.field.specs.Workings.DriveLaws.{FirstHop, there, hop, has-drive-open, has-drive-step}
 use Rattle.drives.specs.Passes.{Spanned, backed, Pass}
-use Rattle.drives.proofs.WayLaws.{way-back}
-use Rattle.drives.proofs.LookLaws.{off-split, off-both}
+use Rattle.drives.proofs.WayLaws.{way-turned, way-hop}
+use Rattle.drives.proofs.LookLaws.{east-west-tells, north-south-tells}
 
 -- Why (x, y) is backed: it is the end, or one of the two hops towards the end leads to a mark.
 data Backing (g : List ℕ) (w h ex ey x y : ℕ) : Type 0 where
@@ -29,42 +29,29 @@ data Backing (g : List ℕ) (w h ex ey x y : ℕ) : Type 0 where
 
 module _ (g : List ℕ) (w h ex ey x y : ℕ) where
   backed-split : backed g w h ex ey x y ≡ true → Backing g w h ex ey x y
-  unfolding backed eastWestIn northSouthIn
+  unfolding backed
   backed-split e = go (or-split _ _ e)
     where
-      row : cond (eqb x ex) false (ltb 0 (lit g w h (hopTo x ex) y)) ≡ true → Backing g w h ex ey x y
-      row f = let k = off-split x ex _ f in behind (hopTo x ex) y (along-row (k .0) refl refl) (lit-marked g w h _ _ (ltb-true _ _ (k .1)))
+      hops : (eastWestIn g w h ex x y ≡ true) ⊎ (northSouthIn g w h ey x y ≡ true) → Backing g w h ex ey x y
+      hops (inl f) = let k = east-west-tells g w h ex x y .1 f in behind (hopTo x ex) y (along-row (k .0) refl refl) (k .1)
+      hops (inr f) = let k = north-south-tells g w h ey x y .1 f in behind x (hopTo y ey) (along-column (k .0) refl refl) (k .1)
 
-      column : cond (eqb y ey) false (ltb 0 (lit g w h x (hopTo y ey))) ≡ true → Backing g w h ex ey x y
-      column f = let k = off-split y ey _ f in behind x (hopTo y ey) (along-column (k .0) refl refl) (lit-marked g w h _ _ (ltb-true _ _ (k .1)))
-
-      hops : (cond (eqb x ex) false (ltb 0 (lit g w h (hopTo x ex) y)) ≡ true) ⊎ (cond (eqb y ey) false (ltb 0 (lit g w h x (hopTo y ey))) ≡ true)
-          → Backing g w h ex ey x y
-      hops (inl f) = row f
-      hops (inr f) = column f
-
-      go : ((eqb x ex && eqb y ey) ≡ true)
-          ⊎ ((cond (eqb x ex) false (ltb 0 (lit g w h (hopTo x ex) y)) || cond (eqb y ey) false (ltb 0 (lit g w h x (hopTo y ey)))) ≡ true)
-          → Backing g w h ex ey x y
+      go : ((eqb x ex && eqb y ey) ≡ true) ⊎ ((eastWestIn g w h ex x y || northSouthIn g w h ey x y) ≡ true) → Backing g w h ex ey x y
       go (inl f) = let k = and-split (eqb x ex) (eqb y ey) f in at-end (eqb-true _ _ (k .0)) (eqb-true _ _ (k .1))
       go (inr f) = hops (or-split _ _ f)
 
-  lit-test : {a b c d : ℕ} → a ≡ c → b ≡ d → Marked g w h a b → ltb 0 (lit g w h c d) ≡ true
-  lit-test {a} {b} {c} {d} p q m =
-      lt-ltb 0 (lit g w h c d) (omega (arith, marked-lit g w h a b m, ap (λ (i : ℕ). lit g w h i b) p, ap (λ (j : ℕ). lit g w h c j) q))
-
   backing : Backing g w h ex ey x y → backed g w h ex ey x y ≡ true
-  unfolding backed eastWestIn northSouthIn
+  unfolding backed
   backing (at-end p q) = or-left _ _ (and-both _ _ (eq-eqb x ex p) (eq-eqb y ey q))
   backing (behind a b (along-row n p q) m) =
-      or-right (eqb x ex && eqb y ey) _ (or-left _ _ (off-both x ex _ n (lit-test p q m)))
+      or-right (eqb x ex && eqb y ey) _ (or-left _ _ (east-west-tells g w h ex x y .0 (n, rw (p, q) at m)))
   backing (behind a b (along-column n p q) m) =
-      or-right (eqb x ex && eqb y ey) _ (or-right (eastWestIn g w h ex x y) _ (off-both y ey _ n (lit-test p q m)))
+      or-right (eqb x ex && eqb y ey) _ (or-right (eastWestIn g w h ex x y) _ (north-south-tells g w h ey x y .0 (n, rw (p, q) at m)))
 
 -- A hop towards an end stays in the rectangle.
 pub spanned-toward : {ex ey fx fy x y a b : ℕ} → Spanned ex ey fx fy x y → Toward ex ey x y a b → Spanned ex ey fx fy a b
-spanned-toward s (along-row n p q) = record { across = rw p (way-back (s .across) n); along = rw q (s .along) }
-spanned-toward s (along-column n p q) = record { across = rw p (s .across); along = rw q (way-back (s .along) n) }
+spanned-toward s (along-row n p q) = record { across = rw p (way-turned (way-hop (way-turned (s .across)) n)); along = rw q (s .along) }
+spanned-toward s (along-column n p q) = record { across = rw p (s .across); along = rw q (way-turned (way-hop (way-turned (s .along)) n)) }
 
 -- A says which crossings of the rectangle are allowed: they are open, and on the way to e a shortest drive keeps to them.
 module _ (w h : ℕ) (C : ℕ → ℕ → Type 0) (ex ey fx fy : ℕ) (A : ℕ → ℕ → Type 0) (is-open : (x y : ℕ) → A x y → Open w h C x y)
