@@ -1,2 +1,0 @@
--- What the map writer promises.
-pub mod Promise
