@@ -3,3 +3,7 @@ pub mod Header
 pub mod Raster
 pub mod File
 pub mod Written
+pub mod HeaderWorking
+pub mod HeaderSound
+pub mod HeaderComplete
+pub mod HeaderLaws
