@@ -7,3 +7,6 @@ pub mod HeaderWorking
 pub mod HeaderSound
 pub mod HeaderComplete
 pub mod HeaderLaws
+pub mod RasterWorking
+pub mod RasterLaws
+pub mod FileLaws
