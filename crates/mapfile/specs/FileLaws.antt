@@ -84,10 +84,12 @@ begins-move P a b p = let e = begins-one a b in rw (e .0, e .1, e .2, e .3) p
 pub map-file-one : {file bits bits′ : List ℕ} {w h w′ h′ : ℕ} → MapFile file w h bits → MapFile file w′ h′ bits′
     → (w ≡ w′) × (h ≡ h′) × (bits ≡ bits′)
 map-file-one {file} {bits} {bits′} {w} {h} m k =
-    let e = begins-one (map-begins m) (map-begins k) in
-    (e .1, e .2,
-     raster-one (m .format) w h (m .body) (m .raster)
-     (begins-move (λ (f : Format) (a b : ℕ) (l : List ℕ). Raster f a b l bits′) (map-begins m) (map-begins k) (k .raster)))
+    let e = begins-one (map-begins m) (map-begins k) in (
+      e .1,
+      e .2,
+      raster-one (m .format) w h (m .body) (m .raster)
+          (begins-move (λ (f : Format) (a b : ℕ) (l : List ℕ). Raster f a b l bits′) (map-begins m) (map-begins k) (k .raster)),
+    )
 
 -- A file whose letters are followed by no header has no beginning.
 headless : (f : Format) {file after body : List ℕ} {g : Format} {w h : ℕ} → Letters f file after → ((a b : ℕ) (l : List ℕ) → ¬ Header (a ∷ b ∷ []) after l)
@@ -131,4 +133,4 @@ fault-one (no-raster f after body a b l k s r) (no-sides g after′ body′ c d 
 fault-one {file} {n} {m} (no-raster f after body a b l k s r) (no-raster g after′ body′ c d l′ k′ s′ r′) =
     raster-fault-one f a b body r
     (begins-move (λ (t : Format) (p q : ℕ) (u : List ℕ). RasterFault t p q u m) (begins f after l k)
-     (begins g after′ l′ k′) r′)
+    (begins g after′ l′ k′) r′)

@@ -106,10 +106,10 @@ comment-before {b} {l} {rest} {seen} q c =
       front = (35 ∷ c .text ++ c .end ∷ []) ++ c .after .front;
       blanks = c .after .blanks;
       items =
-        comment-item (35 ∷ c .text ++ c .end ∷ [])
-        (record { text = c .text; end = c .end; plain = c .plain; ended = c .ended; is = refl })
-        (c .after .items)
-        refl;
+          comment-item (35 ∷ c .text ++ c .end ∷ [])
+          (record { text = c .text; end = c .end; plain = c .plain; ended = c .ended; is = refl })
+          (c .after .items)
+          refl;
       is = whole;
       some = c .after .some;
     }

@@ -10,3 +10,5 @@ pub mod HeaderLaws
 pub mod RasterWorking
 pub mod RasterLaws
 pub mod FileLaws
+pub mod MarkerLaws
+pub mod RockLaws
