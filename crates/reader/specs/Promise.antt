@@ -9,11 +9,11 @@ use Rattle.field.specs.declared.Marker.{Marker}
 use Rattle.field.specs.Map.{most-markers}
 use Rattle.field.specs.Refusals.{success, no-slot}
 use Rattle.mapfile.specs.File.{MapFile, markersOf, FileFault, NoSlot}
-use Rattle.reader.specs.declared.Read.{Read}
-use Rattle.reader.specs.declared.Read.the-variants.{Map, Refused}
+use Rattle.reader.specs.declared.Reading.{Reading}
+use Rattle.reader.specs.declared.Reading.the-variants.{Map, Refused}
 
 -- Document 01's number for each case: 0 on success.
-abbrev pub readNumber : Read → ℕ
+abbrev pub readNumber : Reading → ℕ
 readNumber (Map w h count) = success
 readNumber (Refused n) = n
 
@@ -32,6 +32,6 @@ pub record Turned (file : List ℕ) (list : List Marker) (n : ℕ) (after : List
   pub fault : FileFault file n ⊎ (NoSlot file (length list) × (n ≡ no-slot))
   pub same : after ≡ list
 
-abbrev pub Reads : List ℕ → List Marker → List Marker → Read → Type 0
+abbrev pub Reads : List ℕ → List Marker → List Marker → Reading → Type 0
 Reads file list after (Map w h count) = Taken file list w h count after
 Reads file list after (Refused n) = Turned file list n after

@@ -1,18 +1,158 @@
-// The map reader: PBM, plain P1 and raw P4, within document 01's bounds, into the marker list over parallel slices.
+// The map reader: PBM, plain P1 and raw P4, within document 01's bounds, into the marker list over parallel slices. It goes over the header once and
+// over the raster twice: first the raster is judged and its rocks are counted, and only when nothing is left to refuse are they entered. So a refusal
+// changes no slot.
+ghost use mathlib.Core.Path.{_≡_};
+ghost use mathlib.Core.Bool.{true};
+ghost use mathlib.Core.Logic.{_↔_};
+ghost use Prim.Native.Nat.{ℕ, _+_, _*_, _/_, _<_, _≤_};
+ghost use lib.ListN.{length, getD, drop};
+ghost use Rattle.field.specs.Map.{Sides};
+ghost use Rattle.mapfile.specs.Header.{Blank};
+ghost use Rattle.mapfile.specs.HeaderWorking.{afterItems, afterComment, numberFrom, nextNumber};
+ghost use Rattle.mapfile.specs.Raster.{rowBytes, packedBit};
+ghost use Rattle.mapfile.specs.RasterWorking.{rawBits};
+ghost use Rattle.mapfile.specs.MarkerLaws.{ones};
 ghost use Rattle.markers.specs.Promise.{listOf, Parallel};
 ghost use Rattle.reader.specs.Promise.{Reads};
+ghost use Rattle.reader.specs.Parts.{LettersRead, SameTwo, GapRead, gapEnd, NumeralRead, HeadRead};
+
+// "Width and height: 1 to 64 each."
+const SIDE: usize = 64;
+
+// "A number is 1 to 9 decimal digits."
+const MOST_DIGITS: usize = 9;
 
 // What reading a file finds: a map's width, height and number of rocks; or the number of the refusal.
-pub enum Read {
+pub enum Reading {
     Map(usize, usize, usize),
     Refused(u8),
 }
 
-// Reads a map file. Its rocks become markers with ids 1, 2, 3 and on, in raster order, in the first slots; other slots stay.
-pub fn read(src: &[u8], ids: &mut [u16], xs: &mut [u16], ys: &mut [u16]) -> Read
+// Which format the file's first two bytes name.
+enum Letters {
+    Plain,
+    Raw,
+    Neither,
+}
+
+// Where a separator ends; or that there is none.
+enum Gap {
+    Ends(usize),
+    Missing,
+}
+
+// A number and where it ends; or that there is none.
+enum Numeral {
+    Value(usize, usize),
+    Missing,
+}
+
+// The header's width and height and where the raster begins; or that there is no header.
+enum Head {
+    Sides(usize, usize, usize),
+    Missing,
+}
+
+// Whether the bytes begin with these two.
+fn begins(src: &[u8], two: &[u8; 2]) -> bool
+    ensures { λ r. ⌜ ((r ≡ true) ↔ SameTwo (now (src .entry)) (now (two .entry))) ⌝ }
+{
+    if src.len() < 2 {
+        return false;
+    }
+    if src[0] != two[0] {
+        return false;
+    }
+    if src[1] != two[1] {
+        return false;
+    }
+    true
+}
+
+// "The file starts with the two bytes P1 or P4."
+fn first_two(src: &[u8]) -> Letters
+    ensures { λ r. ⌜ LettersRead (now (src .entry)) r ⌝ }
+{
+    if begins(src, b"P1") {
+        return Letters::Plain;
+    }
+    if begins(src, b"P4") {
+        return Letters::Raw;
+    }
+    Letters::Neither
+}
+
+// "A blank is a space, TAB, CR or LF."
+fn is_blank(b: u8) -> bool
+    ensures { λ r. ⌜ ((r ≡ true) ↔ Blank b) ⌝ }
+{
+    if b == b' ' {
+        return true;
+    }
+    if b == b'\t' {
+        return true;
+    }
+    if b == b'\r' {
+        return true;
+    }
+    if b == b'\n' {
+        return true;
+    }
+    false
+}
+
+// A separator that ends at this place: one if a blank was seen in it.
+fn gap_end(at: usize, seen: bool) -> Gap
+    ensures { λ r. ⌜ r ≡ gapEnd at seen ⌝ }
+{
+    if seen {
+        return Gap::Ends(at);
+    }
+    Gap::Missing
+}
+
+// Skips blanks, and at a # hands on to the comment skipper: so over all items of a separator. `seen`: a blank was among the items before.
+fn skip_blanks(src: &[u8], at: usize, seen: bool) -> Gap
+    requires { ⌜ at ≤ length (now src) ⌝ }
+    ensures { λ r. ⌜ GapRead (now (src .entry)) (afterItems (drop at (now (src .entry))) seen) r ⌝ }
+{
+    let mut i = at;
+    let mut any = seen;
+    while i < src.len() {
+        if src[i] == b'#' {
+            return skip_comment(src, i + 1, any);
+        }
+        if !is_blank(src[i]) {
+            return gap_end(i, any);
+        }
+        any = true;
+        i += 1;
+    }
+    gap_end(i, any)
+}
+
+// Skips a comment through the CR or LF that ends it, and hands on to the blank skipper. A comment that never ends makes no separator.
+fn skip_comment(src: &[u8], at: usize, seen: bool) -> Gap
+    requires { ⌜ at ≤ length (now src) ⌝ }
+    ensures { λ r. ⌜ GapRead (now (src .entry)) (afterComment (drop at (now (src .entry))) seen) r ⌝ }
+{
+    let mut i = at;
+    while i < src.len() {
+        if src[i] == b'\r' {
+            return skip_blanks(src, i + 1, seen);
+        }
+        if src[i] == b'\n' {
+            return skip_blanks(src, i + 1, seen);
+        }
+        i += 1;
+    }
+    Gap::Missing
+}
+
+pub fn read(src: &[u8], ids: &mut [u16], xs: &mut [u16], ys: &mut [u16]) -> Reading
     requires { ⌜ Parallel (now ids) (now xs) (now ys) ⌝ }
     ensures same { λ r. ⌜ Parallel (now (ids .exit)) (now (xs .exit)) (now (ys .exit)) ⌝ }
     ensures read { λ r. ⌜ Reads (now (src .entry)) (listOf (now (ids .entry)) (now (xs .entry)) (now (ys .entry))) (listOf (now (ids .exit)) (now (xs .exit)) (now (ys .exit))) r ⌝ }
 {
-    Read::Refused(12)
+    Reading::Refused(12)
 }

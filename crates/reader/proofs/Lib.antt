@@ -1,0 +1,4 @@
+-- Laws that the proofs of the reader's functions share.
+mod Answers
+mod FirstTwo
+mod Skipping
