@@ -2,3 +2,5 @@
 mod Answers
 mod FirstTwo
 mod Skipping
+mod Numbering
+mod Heading

@@ -43,6 +43,10 @@ abbrev pub NumeralRead : List ℕ → Value → Numeral → Type 0
 NumeralRead src o (NumeralValue v e) = (e ≤ length src) × (o ≡ value v (drop e src))
 NumeralRead src o NumeralMissing = o ≡ no-value
 
+abbrev pub numeralEnd : ℕ → ℕ → ℕ → Numeral
+numeralEnd zero v e = NumeralMissing
+numeralEnd (suc n) v e = NumeralValue v e
+
 -- A header and where the raster begins, by the grammar.
 abbrev pub HeadRead : List ℕ → ℕ → Head → Type 0
 HeadRead src at (HeadSides w h e) = (e ≤ length src) × Header (w ∷ h ∷ []) (drop at src) (drop e src)

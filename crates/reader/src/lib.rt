@@ -7,14 +7,14 @@ ghost use mathlib.Core.Logic.{_↔_};
 ghost use Prim.Native.Nat.{ℕ, _+_, _*_, _/_, _<_, _≤_};
 ghost use lib.ListN.{length, getD, drop};
 ghost use Rattle.field.specs.Map.{Sides};
-ghost use Rattle.mapfile.specs.Header.{Blank};
-ghost use Rattle.mapfile.specs.HeaderWorking.{afterItems, afterComment, numberFrom, nextNumber};
+ghost use Rattle.mapfile.specs.Header.{Blank, Digit};
+ghost use Rattle.mapfile.specs.HeaderWorking.{afterItems, afterComment, numberFrom, nextNumber, lastBlank};
 ghost use Rattle.mapfile.specs.Raster.{rowBytes, packedBit};
 ghost use Rattle.mapfile.specs.RasterWorking.{rawBits};
 ghost use Rattle.mapfile.specs.MarkerLaws.{ones};
 ghost use Rattle.markers.specs.Promise.{listOf, Parallel};
 ghost use Rattle.reader.specs.Promise.{Reads};
-ghost use Rattle.reader.specs.Parts.{LettersRead, SameTwo, GapRead, gapEnd, NumeralRead, HeadRead};
+ghost use Rattle.reader.specs.Parts.{LettersRead, SameTwo, GapRead, gapEnd, NumeralRead, numeralEnd, HeadRead};
 
 // "Width and height: 1 to 64 each."
 const SIDE: usize = 64;
@@ -147,6 +147,115 @@ fn skip_comment(src: &[u8], at: usize, seen: bool) -> Gap
         i += 1;
     }
     Gap::Missing
+}
+
+// Whether the byte is a decimal digit.
+fn is_digit(b: u8) -> bool
+    ensures { λ r. ⌜ ((r ≡ true) ↔ Digit b) ⌝ }
+{
+    if b < b'0' {
+        return false;
+    }
+    if b'9' < b {
+        return false;
+    }
+    true
+}
+
+// A number of so many digits that ends at this place: one if it has a digit.
+fn numeral_end(digits: usize, v: usize, at: usize) -> Numeral
+    ensures { λ r. ⌜ r ≡ numeralEnd digits v at ⌝ }
+{
+    if digits == 0 {
+        return Numeral::Missing;
+    }
+    Numeral::Value(v, at)
+}
+
+// "A number is 1 to 9 decimal digits, leading zeros allowed." It ends before the first byte that is no digit.
+fn number(src: &[u8], at: usize) -> Numeral
+    requires { ⌜ at ≤ length (now src) ⌝ }
+    ensures { λ r. ⌜ NumeralRead (now (src .entry)) (numberFrom (drop at (now (src .entry))) 0 0) r ⌝ }
+{
+    let mut v: usize = 0;
+    let mut i = at;
+    while i < src.len() {
+        let b = src[i];
+        if !is_digit(b) {
+            return numeral_end(i - at, v, i);
+        }
+        if i - at == MOST_DIGITS {
+            return Numeral::Missing;
+        }
+        v = v * 10 + (b - b'0') as usize;
+        i += 1;
+    }
+    numeral_end(i - at, v, i)
+}
+
+// A separator and the number after it.
+fn next_number(src: &[u8], at: usize) -> Numeral
+    requires { ⌜ at ≤ length (now src) ⌝ }
+    ensures { λ r. ⌜ NumeralRead (now (src .entry)) (nextNumber (drop at (now (src .entry)))) r ⌝ }
+{
+    let gap = skip_blanks(src, at, false);
+    match gap {
+        Gap::Ends(i) => number(src, i),
+        Gap::Missing => Numeral::Missing,
+    }
+}
+
+// The "exactly one blank byte" after the height.
+fn one_blank(src: &[u8], at: usize) -> Gap
+    requires { ⌜ at ≤ length (now src) ⌝ }
+    ensures { λ r. ⌜ GapRead (now (src .entry)) (lastBlank (drop at (now (src .entry)))) r ⌝ }
+{
+    if at == src.len() {
+        return Gap::Missing;
+    }
+    if !is_blank(src[at]) {
+        return Gap::Missing;
+    }
+    Gap::Ends(at + 1)
+}
+
+// "Then a separator, the width, a separator, the height, exactly one blank byte, the raster."
+fn header(src: &[u8], at: usize) -> Head
+    requires { ⌜ at ≤ length (now src) ⌝ }
+    ensures { λ r. ⌜ HeadRead (now (src .entry)) at r ⌝ }
+{
+    let width = next_number(src, at);
+    let Numeral::Value(w, i) = width else {
+        return Head::Missing;
+    };
+    let height = next_number(src, i);
+    let Numeral::Value(h, j) = height else {
+        return Head::Missing;
+    };
+    let last = one_blank(src, j);
+    match last {
+        Gap::Ends(body) => Head::Sides(w, h, body),
+        Gap::Missing => Head::Missing,
+    }
+}
+
+// "Width and height: 1 to 64 each."
+fn fits(w: usize, h: usize) -> bool
+    ensures { λ r. ⌜ ((r ≡ true) ↔ Sides w h) ⌝ }
+{
+    if w == 0 {
+        return false;
+    }
+    if h == 0 {
+        return false;
+    }
+    if SIDE < w {
+        return false;
+    }
+    if SIDE < h {
+        return false;
+    }
+    true
 }
 
 pub fn read(src: &[u8], ids: &mut [u16], xs: &mut [u16], ys: &mut [u16]) -> Reading
