@@ -31,6 +31,12 @@ ones-le [] = omega arith
 ones-le (zero ∷ bits) = omega (arith, ones-le bits)
 ones-le (suc b ∷ bits) = omega (arith, ones-le bits)
 
+-- One bit more.
+pub ones-snoc : (bits : List ℕ) (b : ℕ) → b ≤ 1 → ones (bits ++ b ∷ []) ≡ ones bits + b
+unfolding ones
+ones-snoc bits zero l = ones-append bits (0 ∷ [])
+ones-snoc bits (suc b) l = ones-append bits (suc b ∷ []) ∙ omega arith
+
 -- The marker with this id on the crossing of the k-th bit.
 abbrev pub markerAt : ℕ → ℕ → ℕ → ℕ → Marker
 markerAt w h id k = record { id = id; x = k % w; y = h - (k / w + 1) }

@@ -3,17 +3,21 @@ use mathlib.Core.Path.{_≡_}
 use mathlib.Core.Bool.{Bool, true, false}
 use mathlib.Core.List.{List, [], _∷_, _++_}
 use mathlib.Core.Option.{Option, none, some}
-use Prim.Native.Nat.{ℕ, zero, suc, _≤_}
+use Prim.Native.Nat.{ℕ, zero, suc, _+_, _*_, _/_, _<_, _≤_}
 use lib.ListN.{length, getD, drop}
+use Rattle.field.specs.Map.{side, Sides}
 use Rattle.mapfile.specs.Header.{Header}
 use Rattle.mapfile.specs.HeaderWorking.{Value, value, no-value}
-use Rattle.mapfile.specs.File.{Format, plain, raw, Letters}
+use Rattle.mapfile.specs.Raster.{rowBytes}
+use Rattle.mapfile.specs.File.{Format, plain, raw, Letters, Raster, RasterFault, markersOf}
 use Rattle.reader.specs.declared.Letters.{Letters as LettersFound}
 use Rattle.reader.specs.declared.Letters.the-variants.{Plain, Raw, Neither}
 use Rattle.reader.specs.declared.Gap.{Gap}
 use Rattle.reader.specs.declared.Gap.the-variants.{Ends, Missing}
 use Rattle.reader.specs.declared.Numeral.{Numeral}
 use Rattle.reader.specs.declared.Numeral.the-variants.{Value as NumeralValue, Missing as NumeralMissing}
+use Rattle.reader.specs.declared.Place.{Place}
+use Rattle.reader.specs.declared.Judged.{Judged}
 use Rattle.reader.specs.declared.Head.{Head}
 use Rattle.reader.specs.declared.Head.the-variants.{Sides as HeadSides, Missing as HeadMissing}
 
@@ -51,3 +55,34 @@ numeralEnd (suc n) v e = NumeralValue v e
 abbrev pub HeadRead : List ℕ → ℕ → Head → Type 0
 HeadRead src at (HeadSides w h e) = (e ≤ length src) × Header (w ∷ h ∷ []) (drop at src) (drop e src)
 HeadRead src at HeadMissing = (w h : ℕ) (body : List ℕ) → ¬ Header (w ∷ h ∷ []) (drop at src) body
+
+-- A step in the raster asks for a column of the row, and a row within the limit.
+pub record MayStep (w : ℕ) (p : Place) : Type 0 where
+  pub in-x : p .x < w
+  pub few : p .row ≤ side
+
+-- The next crossing in raster order.
+pub record Steps (w : ℕ) (p q : Place) : Type 0 where
+  pub in-x : q .x < w
+  pub next : q .row * w + q .x ≡ p .row * w + p .x + 1
+
+-- A look at a packed bit asks for its byte.
+pub record MayLook (w : ℕ) (body : List ℕ) (row x : ℕ) : Type 0 where
+  pub most : w ≤ side
+  pub there : row * rowBytes w + x / 8 < length body
+
+-- The bytes are the packed rows, and nothing more.
+pub record RawRows (w h : ℕ) (body : List ℕ) : Type 0 where
+  pub sides : Sides w h
+  pub size : length body ≡ h * rowBytes w
+
+-- A raster of these bits, with as many rocks.
+pub record RasterOf (f : Format) (w h : ℕ) (body : List ℕ) (rocks : ℕ) : Type 0 where
+  pub bits : List ℕ
+  pub raster : Raster f w h body bits
+  pub counted : rocks ≡ length (markersOf w h bits)
+
+-- A raster judged: its first fault, or its rocks.
+pub record JudgedAs (f : Format) (w h : ℕ) (body : List ℕ) (j : Judged) : Type 0 where
+  pub faulty : ¬ (j .fault ≡ 0) → RasterFault f w h body (j .fault)
+  pub good : j .fault ≡ 0 → RasterOf f w h body (j .rocks)

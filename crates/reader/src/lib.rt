@@ -6,15 +6,16 @@ ghost use mathlib.Core.Bool.{true};
 ghost use mathlib.Core.Logic.{_↔_};
 ghost use Prim.Native.Nat.{ℕ, _+_, _*_, _/_, _<_, _≤_};
 ghost use lib.ListN.{length, getD, drop};
-ghost use Rattle.field.specs.Map.{Sides};
+ghost use Rattle.field.specs.Map.{side, Sides};
 ghost use Rattle.mapfile.specs.Header.{Blank, Digit};
 ghost use Rattle.mapfile.specs.HeaderWorking.{afterItems, afterComment, numberFrom, nextNumber, lastBlank};
 ghost use Rattle.mapfile.specs.Raster.{rowBytes, packedBit};
 ghost use Rattle.mapfile.specs.RasterWorking.{rawBits};
+ghost use Rattle.mapfile.specs.File.{plain, raw};
 ghost use Rattle.mapfile.specs.MarkerLaws.{ones};
 ghost use Rattle.markers.specs.Promise.{listOf, Parallel};
 ghost use Rattle.reader.specs.Promise.{Reads};
-ghost use Rattle.reader.specs.Parts.{LettersRead, SameTwo, GapRead, gapEnd, NumeralRead, numeralEnd, HeadRead};
+ghost use Rattle.reader.specs.Parts.{LettersRead, SameTwo, GapRead, gapEnd, NumeralRead, numeralEnd, HeadRead, MayStep, Steps, MayLook, RawRows, JudgedAs};
 
 // "Width and height: 1 to 64 each."
 const SIDE: usize = 64;
@@ -51,6 +52,18 @@ enum Numeral {
 enum Head {
     Sides(usize, usize, usize),
     Missing,
+}
+
+// A crossing of the raster: its column, and its row counted from the north.
+struct Place {
+    x: usize,
+    row: usize,
+}
+
+// What judging a raster finds: the number of its first fault, or 0; and the rocks met.
+struct Judged {
+    fault: u8,
+    rocks: usize,
 }
 
 // Whether the bytes begin with these two.
@@ -256,6 +269,78 @@ fn fits(w: usize, h: usize) -> bool
         return false;
     }
     true
+}
+
+// How many bytes a packed row has: eight crossings to a byte.
+fn row_bytes(w: usize) -> usize
+    requires { ⌜ w ≤ side ⌝ }
+    ensures { λ r. ⌜ r ≡ rowBytes w ⌝ }
+{
+    (w + 7) / 8
+}
+
+// The next crossing in raster order: from the west, row by row.
+fn next(p: Place, w: usize) -> Place
+    requires { ⌜ MayStep w p ⌝ }
+    ensures { λ r. ⌜ Steps w p r ⌝ }
+{
+    if p.x + 1 < w {
+        return Place {
+            x: p.x + 1,
+            row: p.row,
+        };
+    }
+    Place {
+        x: 0,
+        row: p.row + 1,
+    }
+}
+
+// The bit of a crossing in packed rows: "highest bit westmost, 1 a rock".
+fn bit_at(body: &[u8], w: usize, row: usize, x: usize) -> u8
+    requires { ⌜ MayLook w (now body) row x ⌝ }
+    ensures { λ r. ⌜ r ≡ packedBit w (now (body .entry)) row x ⌝ }
+{
+    let i = row * row_bytes(w) + x / 8;
+    (body[i] >> (7 - x % 8)) % 2
+}
+
+// How many rocks the packed rows hold. "Pad bits at a row's end are ignored": they are not looked at.
+fn count_raw(body: &[u8], w: usize, h: usize) -> usize
+    requires { ⌜ RawRows w h (now body) ⌝ }
+    ensures { λ r. ⌜ r ≡ ones (rawBits w h (now (body .entry))) ⌝ }
+{
+    let mut rocks: usize = 0;
+    let mut p = Place { x: 0, row: 0 };
+    while p.row < h {
+        rocks += bit_at(body, w, p.row, p.x) as usize;
+        p = next(p, w);
+    }
+    rocks
+}
+
+// Judges a P4 raster: as many bytes as the rows have, or it ends early, or there are bytes after it.
+fn judge_raw(body: &[u8], w: usize, h: usize) -> Judged
+    requires { ⌜ Sides w h ⌝ }
+    ensures { λ r. ⌜ JudgedAs raw w h (now (body .entry)) r ⌝ }
+{
+    let size = h * row_bytes(w);
+    if body.len() < size {
+        return Judged {
+            fault: 14,
+            rocks: 0,
+        };
+    }
+    if size < body.len() {
+        return Judged {
+            fault: 15,
+            rocks: 0,
+        };
+    }
+    Judged {
+        fault: 0,
+        rocks: count_raw(body, w, h),
+    }
 }
 
 pub fn read(src: &[u8], ids: &mut [u16], xs: &mut [u16], ys: &mut [u16]) -> Reading
