@@ -10,15 +10,15 @@ use Rattle.mapfile.specs.Raster.{packedBit, RawRaster}
 use Rattle.mapfile.specs.RasterWorking.{rawBits}
 use Rattle.mapfile.specs.RasterLaws.{raw-raster}
 use Rattle.mapfile.specs.MarkerLaws.{ones, ones-le, ones-snoc}
-use Rattle.reader.specs.Parts.{RawRows, MayStep, Steps, MayLook}
+use Rattle.reader.specs.Parts.{placeOf, RawRows, MayStep, Steps, MayLook}
 use Rattle.reader.specs.declared.Place.{Place}
 use Rattle.reader.proofs.Limits.{crossings-few}
 use Rattle.reader.proofs.Rows.{place-below, rows-end, byte-below, take-next}
 
 pub record Counting (w h : ℕ) (body : List ℕ) (rocks : ℕ) (p : Place) : Type 0 where
   pub in-x : p .x < w
-  pub within : p .row * w + p .x ≤ h * w
-  pub counted : rocks ≡ ones (take (p .row * w + p .x) (rawBits w h body))
+  pub within : placeOf w p ≤ h * w
+  pub counted : rocks ≡ ones (take (placeOf w p) (rawBits w h body))
 
 pub bit-small : (w : ℕ) (l : List ℕ) (row x : ℕ) → packedBit w l row x ≤ 1
 unfolding packedBit
@@ -46,8 +46,8 @@ module _ {w h : ℕ} {body : List ℕ} (r : RawRows w h body) where
   pub counting-few : {rocks : ℕ} {p : Place} → Counting w h body rocks p → rocks ≤ 4096
   counting-few {rocks} {p} k =
       omega
-      (arith, k .counted, k .within, crossings-few (r .sides), ones-le (take (p .row * w + p .x) (rawBits w h body)),
-       length-take (p .row * w + p .x) (rawBits w h body))
+      (arith, k .counted, k .within, crossings-few (r .sides), ones-le (take (placeOf w p) (rawBits w h body)),
+       length-take (placeOf w p) (rawBits w h body))
 
   pub counting-more : {rocks bit : ℕ} {p q : Place} → p .row < h → bit ≡ packedBit w body (p .row) (p .x) → Steps w p q → Counting w h body rocks p
       → Counting w h body (rocks + bit) q
@@ -59,7 +59,7 @@ module _ {w h : ℕ} {body : List ℕ} (r : RawRows w h body) where
       }
     where
       place : ℕ
-      place = p .row * w + p .x
+      place = placeOf w p
 
       below : place < h * w
       below = place-below w h (p .row) (p .x) l (k .in-x)
@@ -77,4 +77,4 @@ module _ {w h : ℕ} {body : List ℕ} (r : RawRows w h body) where
   pub counting-end : {rocks : ℕ} {p : Place} → h ≤ p .row → Counting w h body rocks p → rocks ≡ ones (rawBits w h body)
   counting-end {rocks} {p} l k =
       k .counted
-      ∙ ap ones (take-all (p .row * w + p .x) (rawBits w h body) (omega (arith, raster .crossings, rows-end w h (p .row) (p .x) l (k .within))))
+      ∙ ap ones (take-all (placeOf w p) (rawBits w h body) (omega (arith, raster .crossings, rows-end w h (p .row) (p .x) l (k .within))))

@@ -8,3 +8,6 @@ mod Limits
 mod Rows
 mod Counting
 mod Judging
+mod Entering
+mod Filling
+mod FillingRaw

@@ -15,7 +15,7 @@ ghost use Rattle.mapfile.specs.File.{plain, raw};
 ghost use Rattle.mapfile.specs.MarkerLaws.{ones};
 ghost use Rattle.markers.specs.Promise.{listOf, Parallel};
 ghost use Rattle.reader.specs.Promise.{Reads};
-ghost use Rattle.reader.specs.Parts.{LettersRead, SameTwo, GapRead, gapEnd, NumeralRead, numeralEnd, HeadRead, MayStep, Steps, MayLook, RawRows, JudgedAs};
+ghost use Rattle.reader.specs.Parts.{LettersRead, SameTwo, GapRead, gapEnd, NumeralRead, numeralEnd, HeadRead, MayStep, Steps, MayLook, RawRows, JudgedAs, MayEnterBit, EntersBit, MayFill, Fills};
 
 // "Width and height: 1 to 64 each."
 const SIDE: usize = 64;
@@ -340,6 +340,49 @@ fn judge_raw(body: &[u8], w: usize, h: usize) -> Judged
     Judged {
         fault: 0,
         rocks: count_raw(body, w, h),
+    }
+}
+
+// Enters the marker of a crossing whose bit is 1 in slot n, with the next id; a bit of 0 enters none. Hands back how many are entered.
+fn enter_bit(
+    ids: &mut [u16],
+    xs: &mut [u16],
+    ys: &mut [u16],
+    n: usize,
+    bit: u8,
+    x: usize,
+    y: usize,
+) -> usize
+    requires { ⌜ MayEnterBit (now ids) (now xs) (now ys) n bit x y ⌝ }
+    ensures { λ r. ⌜ EntersBit (now (ids .entry)) (now (xs .entry)) (now (ys .entry)) n bit x y (now (ids .exit)) (now (xs .exit)) (now (ys .exit)) r ⌝ }
+{
+    if bit == 0 {
+        return n;
+    }
+    ids[n] = (n + 1) as u16;
+    xs[n] = x as u16;
+    ys[n] = y as u16;
+    n + 1
+}
+
+// Enters the rocks of a P4 raster in raster order. "The first raster row is the northmost."
+fn fill_raw(
+    body: &[u8],
+    w: usize,
+    h: usize,
+    ids: &mut [u16],
+    xs: &mut [u16],
+    ys: &mut [u16],
+)
+    requires { ⌜ MayFill raw w h (now body) (now ids) (now xs) (now ys) ⌝ }
+    ensures { λ _. ⌜ Fills raw w h (now (body .entry)) (now (ids .entry)) (now (xs .entry)) (now (ys .entry)) (now (ids .exit)) (now (xs .exit)) (now (ys .exit)) ⌝ }
+{
+    let mut n: usize = 0;
+    let mut p = Place { x: 0, row: 0 };
+    while p.row < h {
+        let bit = bit_at(body, w, p.row, p.x);
+        n = enter_bit(ids, xs, ys, n, bit, p.x, h - (p.row + 1));
+        p = next(p, w);
     }
 }
 

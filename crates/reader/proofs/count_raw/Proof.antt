@@ -1,6 +1,7 @@
 -- `count_raw` meets its contract: the loop keeps Counting, and each turn passes one crossing more.
 use Prim.Native.Nat.{_+_, _*_, _-_}
 use native.Mathlib.Omega.{arith}
+use Rattle.reader.specs.Parts.{placeOf}
 use Rattle.reader.proofs.Rows.{place-below}
 use Rattle.reader.proofs.Counting.{
   Counting,
@@ -23,7 +24,7 @@ abbrev Inv-loop : tie.InvT-loop
 Inv-loop body w h rocks₀ p₀ rocks p = Counting w h body rocks p
 
 abbrev μ-loop : tie.MeasureT-loop
-μ-loop body w h rocks₀ p₀ rocks p = h * w - (p .row * w + p .x)
+μ-loop body w h rocks₀ p₀ rocks p = h * w - (placeOf w p)
 
 -- src/lib.rt:315:5
 loop-holds : tie.Need-loop-holds Inv-loop μ-loop

@@ -29,16 +29,16 @@ returns-2 : tie.Need-returns-2
 returns-2 c = raw-judged-long _ _ _ _ (rw (c .before .before .row-bytes .ensures) at (c .if2 .taken))
 
 -- Neither too short nor too long.
-size-is : {r n h b : ℕ} → r ≡ b → h * r ≤ n → n ≤ h * r → n ≡ h * b
-size-is e p q = rw (← e) (omega arith)
+size-is : (h : ℕ) {r n b : ℕ} → r ≡ b → h * r ≤ n → n ≤ h * r → n ≡ h * b
+size-is h e p q = rw (← e) (omega arith)
 
 -- src/lib.rt:342:16
 count-raw-requires : tie.Need-count-raw-requires
-count-raw-requires c κs = record { sides = c .before .before .before .before .pre; size = size-is (c .before .before .row-bytes .ensures) (c .before .if1 .left) (c .if2 .left) }
+count-raw-requires c κs = record { sides = c .before .before .before .before .pre; size = size-is _ (c .before .before .row-bytes .ensures) (c .before .if1 .left) (c .if2 .left) }
 
 -- src/lib.rt:323:1
 returns-3 : tie.Need-returns-3
-returns-3 c = raw-judged-good _ _ _ _ (size-is (c .before .before .before .row-bytes .ensures) (c .before .before .if1 .left) (c .before .if2 .left)) (c .count-raw .ensures)
+returns-3 c = raw-judged-good _ _ _ _ (size-is _ (c .before .before .before .row-bytes .ensures) (c .before .before .if1 .left) (c .before .if2 .left)) (c .count-raw .ensures)
 
 pub judge-raw-spec : {M : Type 1} → statement M
 judge-raw-spec =
