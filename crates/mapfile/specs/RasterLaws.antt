@@ -77,6 +77,13 @@ digits-are (zero-digit {rest} {k} d p e) =
 digits-are (one-digit {rest} {k} d p e) =
     p ∙ ap (λ (m : List ℕ). 1 ∷ m) (digits-are d) ∙ sym (ap digitsOf e ∙ digits-of-one k refl)
 
+-- Digits after digits.
+pub digits-append : {a b l k : List ℕ} → Digits a l → Digits b k → Digits (a ++ b) (l ++ k)
+digits-append (ended p q) e = rw (p, q) e
+digits-append {k} (skip b s d q) e = skip b s (digits-append d e) (ap (λ (m : List ℕ). m ++ k) q)
+digits-append {b} {k} (zero-digit d p q) e = zero-digit (digits-append d e) (ap (λ (m : List ℕ). m ++ b) p) (ap (λ (m : List ℕ). m ++ k) q)
+digits-append {b} {k} (one-digit d p q) e = one-digit (digits-append d e) (ap (λ (m : List ℕ). m ++ b) p) (ap (λ (m : List ℕ). m ++ k) q)
+
 pub plain-raster-one : {w h : ℕ} {l bits bits′ : List ℕ} → PlainRaster w h l bits → PlainRaster w h l bits′ → bits ≡ bits′
 plain-raster-one a b = digits-are (a .digits) ∙ sym (digits-are (b .digits))
 

@@ -1,6 +1,6 @@
 -- The rasters' bits as functions of their bytes, and the verdict on a P1 raster.
-use mathlib.Core.Path.{_≡_, refl, _∙_}
-use mathlib.Core.List.{List, [], _∷_}
+use mathlib.Core.Path.{_≡_, refl, sym, ap, _∙_}
+use mathlib.Core.List.{List, [], _∷_, _++_}
 use Prim.Native.Nat.{ℕ, zero, suc, _+_, _*_, _-_, _<_, _≤_}
 use native.Mathlib.Omega.{arith}
 use native.Mathlib.Decide.{ℕ-discrete}
@@ -40,6 +40,19 @@ blank-no-bit (space e) = (omega arith, omega arith)
 blank-no-bit (tab e) = (omega arith, omega arith)
 blank-no-bit (return e) = (omega arith, omega arith)
 blank-no-bit (feed e) = (omega arith, omega arith)
+
+-- The bits of bytes after bytes.
+pub digits-of-append : (l k : List ℕ) → digitsOf (l ++ k) ≡ digitsOf l ++ digitsOf k
+digits-of-append [] k = ap (λ (m : List ℕ). m ++ digitsOf k) (sym digits-of-none)
+digits-of-append (b ∷ l) k = go (ℕ-discrete b 48) (ℕ-discrete b 49) (digits-of-append l k)
+  where
+    go : Dec (b ≡ 48) → Dec (b ≡ 49) → digitsOf (l ++ k) ≡ digitsOf l ++ digitsOf k → digitsOf (b ∷ l ++ k) ≡ digitsOf (b ∷ l) ++ digitsOf k
+    go (yes p) q e =
+        digits-of-zero (l ++ k) p ∙ ap (λ (m : List ℕ). 0 ∷ m) e ∙ ap (λ (m : List ℕ). m ++ digitsOf k) (sym (digits-of-zero l p))
+    go (no p) (yes q) e =
+        digits-of-one (l ++ k) q ∙ ap (λ (m : List ℕ). 1 ∷ m) e ∙ ap (λ (m : List ℕ). m ++ digitsOf k) (sym (digits-of-one l q))
+    go (no p) (no q) e =
+        digits-of-other (l ++ k) p q ∙ e ∙ ap (λ (m : List ℕ). m ++ digitsOf k) (sym (digits-of-other l p q))
 
 -- The verdict on a P1 raster with n digits still to come: the refusal at the first fault, or 0.
 pub plainVerdict : List ℕ → ℕ → ℕ

@@ -13,7 +13,7 @@ use Rattle.mapfile.specs.MarkerLaws.{ones, markers-length}
 use Rattle.reader.specs.Parts.{RasterOf, JudgedAs}
 use Rattle.reader.specs.declared.Judged.{Judged}
 
-abbrev judged : ℕ → ℕ → Judged
+abbrev pub judged : ℕ → ℕ → Judged
 judged n rocks = record { fault = n; rocks = rocks }
 
 -- There are as many markers as bits that are 1.

@@ -8,6 +8,7 @@ mod Limits
 mod Rows
 mod Counting
 mod Judging
+mod JudgingPlain
 mod Entering
 mod Filling
 mod FillingRaw

@@ -129,3 +129,8 @@ pub record Fills (f : Format) (w h : ℕ) (body ids xs ys ids′ xs′ ys′ : L
   pub parallel : Parallel ids′ xs′ ys′
   pub slots : (bits : List ℕ) → Raster f w h body bits
       → listOf ids′ xs′ ys′ ≡ markersOf w h bits ++ drop (length (markersOf w h bits)) (listOf ids xs ys)
+
+-- A digit 0 or 1.
+pub data BitByte (b : ℕ) : Type 0 where
+  zero-byte : b ≡ 48 → BitByte b
+  one-byte : b ≡ 49 → BitByte b
