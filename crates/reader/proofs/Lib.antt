@@ -12,3 +12,4 @@ mod JudgingPlain
 mod Entering
 mod Filling
 mod FillingRaw
+mod FillingPlain

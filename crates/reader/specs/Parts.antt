@@ -3,15 +3,19 @@ use mathlib.Core.Path.{_≡_}
 use mathlib.Core.Bool.{Bool, true, false}
 use mathlib.Core.List.{List, [], _∷_, _++_}
 use mathlib.Core.Option.{Option, none, some}
+use mathlib.Core.Logic.{_⊎_}
 use Prim.Native.Nat.{ℕ, zero, suc, _+_, _*_, _/_, _<_, _≤_}
 use lib.ListN.{length, getD, drop, set}
 use Rattle.field.specs.declared.Marker.{Marker}
 use Rattle.field.specs.Map.{side, most-markers, Sides}
+use Rattle.field.specs.Refusals.{no-slot}
 use Rattle.markers.specs.Promise.{marker, listOf, Parallel}
 use Rattle.mapfile.specs.Header.{Header}
 use Rattle.mapfile.specs.HeaderWorking.{Value, value, no-value}
 use Rattle.mapfile.specs.Raster.{rowBytes}
 use Rattle.mapfile.specs.File.{Format, plain, raw, Letters, Raster, RasterFault, markersOf}
+use Rattle.reader.specs.declared.Reading.{Reading}
+use Rattle.reader.specs.declared.Reading.the-variants.{Map, Refused}
 use Rattle.reader.specs.declared.Letters.{Letters as LettersFound}
 use Rattle.reader.specs.declared.Letters.the-variants.{Plain, Raw, Neither}
 use Rattle.reader.specs.declared.Gap.{Gap}
@@ -134,3 +138,46 @@ pub record Fills (f : Format) (w h : ℕ) (body ids xs ys ids′ xs′ ys′ : L
 pub data BitByte (b : ℕ) : Type 0 where
   zero-byte : b ≡ 48 → BitByte b
   one-byte : b ≡ 49 → BitByte b
+
+-- The format that the code calls plain, and the other.
+abbrev pub formatOf : Bool → Format
+formatOf true = plain
+formatOf false = raw
+
+-- The rocks pass neither the list lent nor the limit.
+pub record HasRoom (rocks lent : ℕ) : Type 0 where
+  pub room : rocks ≤ lent
+  pub few : rocks ≤ most-markers
+
+-- What reading a raster asks: a map's sides, and the list.
+pub record MayReadRaster (w h : ℕ) (ids xs ys : List ℕ) : Type 0 where
+  pub sides : Sides w h
+  pub parallel : Parallel ids xs ys
+
+-- What reading a raster finds: its markers entered; or its first fault, or that its rocks find no slot, and no slot changed.
+pub record RasterTaken (f : Format) (w h : ℕ) (body : List ℕ) (list : List Marker) (w′ h′ count : ℕ) (after : List Marker) : Type 0 where
+  pub width : w′ ≡ w
+  pub height : h′ ≡ h
+  pub bits : List ℕ
+  pub raster : Raster f w h body bits
+  pub counted : count ≡ length (markersOf w h bits)
+  pub room : HasRoom count (length list)
+  pub slots : after ≡ markersOf w h bits ++ drop count list
+
+pub record RasterOver (f : Format) (w h : ℕ) (body : List ℕ) (lent : ℕ) : Type 0 where
+  pub bits : List ℕ
+  pub raster : Raster f w h body bits
+  pub many : (lent < length (markersOf w h bits)) ⊎ (most-markers < length (markersOf w h bits))
+
+pub record RasterTurned (f : Format) (w h : ℕ) (body : List ℕ) (list : List Marker) (n : ℕ) (after : List Marker) : Type 0 where
+  pub fault : RasterFault f w h body n ⊎ (RasterOver f w h body (length list) × (n ≡ no-slot))
+  pub same : after ≡ list
+
+abbrev pub RasterReads : Format → ℕ → ℕ → List ℕ → List Marker → List Marker → Reading → Type 0
+RasterReads f w h body list after (Map w′ h′ count) = RasterTaken f w h body list w′ h′ count after
+RasterReads f w h body list after (Refused n) = RasterTurned f w h body list n after
+
+-- What reading the rest of a file asks: that it begins with the format's letters, and the list.
+pub record MayReadMap (f : Format) (src ids xs ys : List ℕ) : Type 0 where
+  pub letters : Letters f src (drop 2 src)
+  pub parallel : Parallel ids xs ys

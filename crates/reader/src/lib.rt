@@ -15,10 +15,13 @@ ghost use Rattle.mapfile.specs.File.{plain, raw};
 ghost use Rattle.mapfile.specs.MarkerLaws.{ones};
 ghost use Rattle.markers.specs.Promise.{listOf, Parallel};
 ghost use Rattle.reader.specs.Promise.{Reads};
-ghost use Rattle.reader.specs.Parts.{LettersRead, SameTwo, GapRead, gapEnd, NumeralRead, numeralEnd, HeadRead, MayStep, Steps, MayLook, RawRows, JudgedAs, MayEnterBit, EntersBit, MayFill, Fills, BitByte};
+ghost use Rattle.reader.specs.Parts.{LettersRead, SameTwo, GapRead, gapEnd, NumeralRead, numeralEnd, HeadRead, MayStep, Steps, MayLook, RawRows, JudgedAs, MayEnterBit, EntersBit, MayFill, Fills, BitByte, formatOf, HasRoom, MayReadRaster, RasterReads, MayReadMap};
 
 // "Width and height: 1 to 64 each."
 const SIDE: usize = 64;
+
+// "At most 4,096 are in use."
+const MOST_MARKERS: usize = 4096;
 
 // "A number is 1 to 9 decimal digits."
 const MOST_DIGITS: usize = 9;
@@ -453,10 +456,107 @@ fn fill_plain(
     }
 }
 
+// Judges a raster of either format.
+fn judge(plain: bool, body: &[u8], w: usize, h: usize) -> Judged
+    requires { ⌜ Sides w h ⌝ }
+    ensures { λ r. ⌜ JudgedAs (formatOf plain) w h (now (body .entry)) r ⌝ }
+{
+    if plain {
+        return judge_plain(body, w, h);
+    }
+    judge_raw(body, w, h)
+}
+
+// Enters the rocks of a raster of either format.
+fn fill(
+    plain: bool,
+    body: &[u8],
+    w: usize,
+    h: usize,
+    ids: &mut [u16],
+    xs: &mut [u16],
+    ys: &mut [u16],
+)
+    requires { ⌜ MayFill (formatOf plain) w h (now body) (now ids) (now xs) (now ys) ⌝ }
+    ensures { λ _. ⌜ Fills (formatOf plain) w h (now (body .entry)) (now (ids .entry)) (now (xs .entry)) (now (ys .entry)) (now (ids .exit)) (now (xs .exit)) (now (ys .exit)) ⌝ }
+{
+    if plain {
+        fill_plain(body, w, h, ids, xs, ys);
+    } else {
+        fill_raw(body, w, h, ids, xs, ys);
+    }
+}
+
+// Whether the rocks find a slot each: they pass neither the list lent nor the limit.
+fn has_room(rocks: usize, lent: usize) -> bool
+    ensures { λ r. ⌜ ((r ≡ true) ↔ HasRoom rocks lent) ⌝ }
+{
+    if lent < rocks {
+        return false;
+    }
+    if MOST_MARKERS < rocks {
+        return false;
+    }
+    true
+}
+
+// Reads the raster: "at the first fault met 13, 14 or 15, then 7". Only then are its rocks entered.
+fn read_raster(
+    plain: bool,
+    body: &[u8],
+    w: usize,
+    h: usize,
+    ids: &mut [u16],
+    xs: &mut [u16],
+    ys: &mut [u16],
+) -> Reading
+    requires { ⌜ MayReadRaster w h (now ids) (now xs) (now ys) ⌝ }
+    ensures same { λ r. ⌜ Parallel (now (ids .exit)) (now (xs .exit)) (now (ys .exit)) ⌝ }
+    ensures read { λ r. ⌜ RasterReads (formatOf plain) w h (now (body .entry)) (listOf (now (ids .entry)) (now (xs .entry)) (now (ys .entry))) (listOf (now (ids .exit)) (now (xs .exit)) (now (ys .exit))) r ⌝ }
+{
+    let judged = judge(plain, body, w, h);
+    if judged.fault != 0 {
+        return Reading::Refused(judged.fault);
+    }
+    if !has_room(judged.rocks, ids.len()) {
+        return Reading::Refused(7);
+    }
+    fill(plain, body, w, h, ids, xs, ys);
+    Reading::Map(w, h, judged.rocks)
+}
+
+// Reads what follows the letters of a format. "the raster begins right after that one blank byte".
+fn read_map(
+    src: &[u8],
+    plain: bool,
+    ids: &mut [u16],
+    xs: &mut [u16],
+    ys: &mut [u16],
+) -> Reading
+    requires { ⌜ MayReadMap (formatOf plain) (now src) (now ids) (now xs) (now ys) ⌝ }
+    ensures same { λ r. ⌜ Parallel (now (ids .exit)) (now (xs .exit)) (now (ys .exit)) ⌝ }
+    ensures read { λ r. ⌜ Reads (now (src .entry)) (listOf (now (ids .entry)) (now (xs .entry)) (now (ys .entry))) (listOf (now (ids .exit)) (now (xs .exit)) (now (ys .exit))) r ⌝ }
+{
+    let head = header(src, 2);
+    let Head::Sides(w, h, at) = head else {
+        return Reading::Refused(13);
+    };
+    if !fits(w, h) {
+        return Reading::Refused(1);
+    }
+    read_raster(plain, &src[at..], w, h, ids, xs, ys)
+}
+
+// Reads a map file. Its rocks become markers with ids 1, 2, 3 and on, in raster order, in the first slots; other slots stay.
 pub fn read(src: &[u8], ids: &mut [u16], xs: &mut [u16], ys: &mut [u16]) -> Reading
     requires { ⌜ Parallel (now ids) (now xs) (now ys) ⌝ }
     ensures same { λ r. ⌜ Parallel (now (ids .exit)) (now (xs .exit)) (now (ys .exit)) ⌝ }
     ensures read { λ r. ⌜ Reads (now (src .entry)) (listOf (now (ids .entry)) (now (xs .entry)) (now (ys .entry))) (listOf (now (ids .exit)) (now (xs .exit)) (now (ys .exit))) r ⌝ }
 {
-    Reading::Refused(12)
+    let letters = first_two(src);
+    match letters {
+        Letters::Plain => read_map(src, true, ids, xs, ys),
+        Letters::Raw => read_map(src, false, ids, xs, ys),
+        Letters::Neither => Reading::Refused(12),
+    }
 }
