@@ -28,6 +28,7 @@ use Rattle.reader.specs.declared.Gap.{Gap}
 use Rattle.reader.specs.declared.Gap.the-variants.{Ends, Missing}
 use Rattle.reader.specs.declared.Numeral.{Numeral}
 use Rattle.reader.specs.declared.Numeral.the-variants.{Value as NumeralValue, Missing as NumeralMissing}
+use Rattle.reader.specs.declared.Head.{Head}
 use Rattle.reader.specs.declared.Head.the-variants.{Sides as HeadSides, Missing as HeadMissing}
 use Rattle.reader.proofs.Skipping.{left-cons}
 
@@ -97,3 +98,12 @@ no-last l m n u v p q r w h body k =
     let second : value v n ≡ value h (g .2 .0) = sym q ∙ ap nextNumber same ∙ g .2 .1 in
     let again : n ≡ g .2 .0 = cc in
     none-some (sym r ∙ ap lastBlank again ∙ g .2 .2)
+
+-- The answer of the header, once it is known to be this one.
+pub head-found : (s : List ℕ) (at : ℕ) (r : Head) (w h e : ℕ) → HeadRead s at r → r ≡ HeadSides w h e
+    → (e ≤ length s) × Header (w ∷ h ∷ []) (drop at s) (drop e s)
+head-found s at r w h e g q = subst (HeadRead s at) q g
+
+pub head-missing : (s : List ℕ) (at : ℕ) (r : Head) → HeadRead s at r → r ≡ HeadMissing → (w h : ℕ) (body : List ℕ)
+    → ¬ Header (w ∷ h ∷ []) (drop at s) body
+head-missing s at r g q = subst (HeadRead s at) q g

@@ -13,3 +13,4 @@ mod Entering
 mod Filling
 mod FillingRaw
 mod FillingPlain
+mod Joining

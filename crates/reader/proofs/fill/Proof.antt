@@ -1,3 +1,4 @@
+-- `fill` meets its contract: it hands on to the format's own.
 use borrow.Author.Needs.{needs}
 use Rattle.reader.proofs.fill.Statement.{statement}
 use Rattle.reader.proofs.fill.Tie as tie
@@ -8,11 +9,15 @@ use Rattle.reader.proofs.fill_raw.Reads as fill-raw-reads
 
 -- src/lib.rt:484:9
 fill-plain-requires : tie.Need-fill-plain-requires
-fill-plain-requires c κs = ?
+fill-plain-requires c κs =
+    let t = c .before .before .before in
+    rw (t .if1 .taken) at (t .before .before .before .before .before .pre)
 
 -- src/lib.rt:486:9
 fill-raw-requires : tie.Need-fill-raw-requires
-fill-raw-requires c κs = ?
+fill-raw-requires c κs =
+    let t = c .before .before .before in
+    rw (t .if1 .left) at (t .before .before .before .before .before .pre)
 
 -- src/lib.rt:471:1
 same-length : tie.Need-same-length
@@ -28,7 +33,9 @@ same-length-3 c = search needs
 
 -- src/lib.rt:471:1
 returns : tie.Need-returns
-returns c = ?
+returns c =
+    let e = c .before .before .before .before .before .before in
+    rw (e .before .before .before .before .if1 .taken) (e .fill-plain .ensures)
 
 -- src/lib.rt:471:1
 same-length-4 : tie.Need-same-length-4
@@ -44,7 +51,9 @@ same-length-6 c = search needs
 
 -- src/lib.rt:471:1
 returns-2 : tie.Need-returns-2
-returns-2 c = ?
+returns-2 c =
+    let e = c .before .before .before .before .before .before in
+    rw (e .before .before .before .before .if1 .left) (e .fill-raw .ensures)
 
 pub fill-spec : {M : Type 1} → statement M
 fill-spec =

@@ -1,3 +1,6 @@
+-- `read` meets its promise: the letters name a format, and the rest is read in it; or they name none.
+use Rattle.reader.proofs.FirstTwo.{letters-plain, letters-raw, letters-none}
+use Rattle.reader.proofs.Joining.{file-no-letters}
 use borrow.Author.Needs.{needs}
 use Rattle.reader.proofs.read.Statement.{statement}
 use Rattle.reader.proofs.read.Tie as tie
@@ -16,7 +19,11 @@ enum-told c = search needs
 
 -- src/lib.rt:558:27
 read-map-requires : tie.Need-read-map-requires
-read-map-requires c κs = ?
+read-map-requires c κs =
+    let e = c .before .before .before in
+    let k = e .before .before in
+    let s = k .before .before .before .before .before in
+    record { letters = letters-plain _ _ (k .first-two .ensures) (e .enum-told .given .1); parallel = s .pre }
 
 -- src/lib.rt:559:46
 enum-told-2 : tie.Need-enum-told-2
@@ -24,7 +31,11 @@ enum-told-2 c = search needs
 
 -- src/lib.rt:559:25
 read-map-requires-2 : tie.Need-read-map-requires-2
-read-map-requires-2 c κs = ?
+read-map-requires-2 c κs =
+    let e = c .before .before .before in
+    let k = e .before .before in
+    let s = k .before .before .before .before .before in
+    record { letters = letters-raw _ _ (k .first-two .ensures) (e .enum-told2 .given .1); parallel = s .pre }
 
 -- src/lib.rt:560:29
 enum-told-3 : tie.Need-enum-told-3
@@ -64,7 +75,10 @@ returns-2 c = search needs
 
 -- src/lib.rt:551:1
 returns-3 : tie.Need-returns-3
-returns-3 c = ?
+returns-3 c =
+    let k = c .before .before in
+    let s = k .before .before .before .before .before in
+    (s .pre, file-no-letters _ _ (letters-none _ _ (k .first-two .ensures) (c .enum-told3 .given .1)))
 
 pub read-spec : {M : Type 1} → statement M
 read-spec =
