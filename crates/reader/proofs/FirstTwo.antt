@@ -1,0 +1,44 @@
+-- The first two bytes and the formats' letters: the bytes begin with a format's letters exactly when the first two are the same as those.
+use mathlib.Core.Path.{_≡_, refl, ap, subst}
+use mathlib.Core.List.{List, [], _∷_, _++_}
+use Prim.Native.Nat.{ℕ, _≤_}
+use native.Mathlib.Omega.{arith}
+use lib.ListN.{length, getD, drop}
+use Rattle.mapfile.specs.File.{Format, plain, raw, Letters, lettersOf}
+use Rattle.reader.specs.Parts.{SameTwo, LettersRead}
+use Rattle.reader.specs.declared.Letters.{Letters as LettersFound}
+use Rattle.reader.specs.declared.Letters.the-variants.{Plain, Raw, Neither}
+
+two-first : (file : List ℕ) (a b : ℕ) → SameTwo file (a ∷ b ∷ []) → file ≡ a ∷ b ∷ drop 2 file
+two-first [] a b s = absurd (omega (arith, s .long))
+two-first (c ∷ []) a b s = absurd (omega (arith, s .long))
+two-first (c ∷ d ∷ l) a b s = let p : c ≡ a = s .first in let q : d ≡ b = s .second in cc
+
+pub same-letters : (f : Format) (file : List ℕ) → SameTwo file (lettersOf f) → Letters f file (drop 2 file)
+same-letters plain file s = two-first file 80 49 s
+same-letters raw file s = two-first file 80 52 s
+
+first-two : (file rest : List ℕ) (a b : ℕ) → file ≡ a ∷ b ∷ rest → SameTwo file (a ∷ b ∷ [])
+first-two file rest a b e = rw e (record { long = omega arith; first = refl; second = refl })
+
+letters-same : (f : Format) (file rest : List ℕ) → Letters f file rest → SameTwo file (lettersOf f)
+letters-same plain file rest e = first-two file rest 80 49 e
+letters-same raw file rest e = first-two file rest 80 52 e
+
+pub letters-neither : (file : List ℕ) → ¬ SameTwo file (lettersOf plain) → ¬ SameTwo file (lettersOf raw) → (f : Format) (rest : List ℕ)
+    → ¬ Letters f file rest
+letters-neither file p q plain rest e = p (letters-same plain file rest e)
+letters-neither file p q raw rest e = q (letters-same raw file rest e)
+
+pub letters-long : (f : Format) (file rest : List ℕ) → Letters f file rest → 2 ≤ length file
+letters-long f file rest e = letters-same f file rest e .long
+
+-- The answer of the first two bytes, once it is known to be this one.
+pub letters-plain : (file : List ℕ) (r : LettersFound) → LettersRead file r → r ≡ Plain → Letters plain file (drop 2 file)
+letters-plain file r l e = subst (LettersRead file) e l
+
+pub letters-raw : (file : List ℕ) (r : LettersFound) → LettersRead file r → r ≡ Raw → Letters raw file (drop 2 file)
+letters-raw file r l e = subst (LettersRead file) e l
+
+pub letters-none : (file : List ℕ) (r : LettersFound) → LettersRead file r → r ≡ Neither → (f : Format) (rest : List ℕ) → ¬ Letters f file rest
+letters-none file r l e = subst (LettersRead file) e l

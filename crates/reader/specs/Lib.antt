@@ -1,0 +1,3 @@
+-- What the map reader promises.
+pub mod Promise
+pub mod Parts
