@@ -1,0 +1,122 @@
+// Settling the sheet, once the closed crossings are found: the notes are taken off, and rocks, shut crossings and groups are counted. A group is
+// counted at its corner, the one closed crossing of it with neither a closed west nor a closed south neighbour.
+use super::Labelled;
+ghost use mathlib.Core.Path.{_≡_};
+ghost use Prim.Native.Nat.{_+_, _-_};
+ghost use Rattle.labels.specs.Settling.{counted, sumOf, Adding, westBit, southBit};
+ghost use Rattle.labels.specs.Settling.{Settling, Settled, SettlingRow, SettledRow, SettlingAll, SettledAll};
+
+// Three counts as one value.
+fn counts(rocks: usize, shut: usize, groups: usize) -> Labelled
+    ensures { λ r. ⌜ r ≡ counted rocks shut groups ⌝ }
+{
+    Labelled {
+        rocks,
+        shut,
+        groups,
+    }
+}
+
+// The sum of two counts.
+fn plus(a: Labelled, b: Labelled) -> Labelled
+    requires { ⌜ Adding a b ⌝ }
+    ensures { λ r. ⌜ r ≡ sumOf a b ⌝ }
+{
+    Labelled {
+        rocks: a.rocks + b.rocks,
+        shut: a.shut + b.shut,
+        groups: a.groups + b.groups,
+    }
+}
+
+// 1 where the west neighbour of (x, y) is closed, and else 0; and the same of its south neighbour. Both are settled before (x, y) is.
+fn closed_west(s: &[u8], w: usize, x: usize, y: usize) -> usize
+    requires { ⌜ Settling w x y (now s) ⌝ }
+    ensures { λ r. ⌜ r ≡ westBit (now (s .entry)) w x y ⌝ }
+{
+    if x == 0 {
+        return 0;
+    }
+    if s[y * w + x - 1] == 0 {
+        return 0;
+    }
+    1
+}
+
+fn closed_south(s: &[u8], w: usize, x: usize, y: usize) -> usize
+    requires { ⌜ Settling w x y (now s) ⌝ }
+    ensures { λ r. ⌜ r ≡ southBit (now (s .entry)) w x y ⌝ }
+{
+    if y == 0 {
+        return 0;
+    }
+    if s[(y - 1) * w + x] == 0 {
+        return 0;
+    }
+    1
+}
+
+// 1 where neither the west nor the south neighbour of (x, y) is closed, and else 0.
+fn corner(s: &[u8], w: usize, x: usize, y: usize) -> usize
+    requires { ⌜ Settling w x y (now s) ⌝ }
+    ensures { λ r. ⌜ r ≡ 1 - (westBit (now (s .entry)) w x y + southBit (now (s .entry)) w x y) ⌝ }
+{
+    if closed_west(s, w, x, y) != 0 {
+        return 0;
+    }
+    if closed_south(s, w, x, y) != 0 {
+        return 0;
+    }
+    1
+}
+
+// Takes the note at (x, y) off, and tells what the crossing counts for.
+fn settle(s: &mut [u8], w: usize, x: usize, y: usize) -> Labelled
+    requires { ⌜ Settling w x y (now s) ⌝ }
+    ensures { λ r. ⌜ Settled w x y (now (s .entry)) (now (s .exit)) r ⌝ }
+{
+    let i = y * w + x;
+    let b = s[i];
+    if b == 0 {
+        return counts(0, 0, 0);
+    }
+    if 2 < b {
+        s[i] = 0;
+        return counts(0, 0, 0);
+    }
+    let lowest = corner(s, w, x, y);
+    if b == 1 {
+        return counts(1, 0, lowest);
+    }
+    counts(0, 1, lowest)
+}
+
+// Settles row y: what its crossings count for.
+fn settle_row(s: &mut [u8], w: usize, y: usize) -> Labelled
+    requires { ⌜ SettlingRow w y (now s) ⌝ }
+    ensures { λ r. ⌜ SettledRow w y (now (s .entry)) (now (s .exit)) r ⌝ }
+{
+    let mut sum = counts(0, 0, 0);
+    let mut x = 0;
+    while x < w {
+        let one = settle(s, w, x, y);
+        sum = plus(sum, one);
+        x += 1;
+    }
+    sum
+}
+
+// Settles the whole sheet, and sums up.
+pub fn settle_all(s: &mut [u8], w: usize, h: usize) -> Labelled
+    requires { ⌜ SettlingAll w h (now s) ⌝ }
+    ensures { λ r. ⌜ SettledAll w h (now (s .entry)) (now (s .exit)) r ⌝ }
+{
+    let mut all = counts(0, 0, 0);
+    let mut y = 0;
+    while y < h {
+        let row = settle_row(s, w, y);
+        all = plus(all, row);
+        y += 1;
+    }
+    all
+}
