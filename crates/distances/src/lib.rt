@@ -1,0 +1,97 @@
+// Clear distances of one crossing and of the whole map, and whether home is assured, over a sheet that marks the closed crossings.
+mod look; // look.rt: the distance of one crossing
+mod row; // row.rt: the distances of a row
+mod sheet; // sheet.rt: the distances of the map
+
+ghost use mathlib.Core.Path.{_≡_};
+ghost use mathlib.Core.Bool.{true};
+ghost use mathlib.Core.Logic.{_↔_};
+ghost use Rattle.field.specs.Map.{at};
+ghost use Rattle.field.specs.Distances.{Distances, Assured};
+ghost use Rattle.field.specs.Workings.Sheet.{Marked};
+ghost use Rattle.field.specs.Workings.Looking.{enoughOf, axisOf};
+ghost use Rattle.distances.specs.Promise.{Asked, AskedHome, Lent, Measured};
+
+// What stands for a distance where there is none.
+const NONE: u8 = 255;
+
+// What the sheet has at (x, y): 0 where the crossing is open.
+pub fn mark(s: &[u8], w: usize, h: usize, x: usize, y: usize) -> u8
+    requires { ⌜ Asked w h (now s) x y ⌝ }
+    ensures { λ r. ⌜ r ≡ at (now (s .entry)) w x y ⌝ }
+{
+    s[y * w + x]
+}
+
+// The four distances of (x, y), east, south, west, north.
+pub fn distances(s: &[u8], w: usize, h: usize, x: usize, y: usize) -> [u8; 4]
+    requires { ⌜ Asked w h (now s) x y ⌝ }
+    ensures { λ r. ⌜ Distances (Marked (now (s .entry)) w h) x y r ⌝ }
+{
+    [
+        look::east(s, w, h, x, y),
+        look::south(s, w, h, x, y),
+        look::west(s, w, h, x, y),
+        look::north(s, w, h, x, y),
+    ]
+}
+
+// The distances of the whole map, one sheet for each way. Each number is made of its neighbour's: no crossing is looked at twice for one way.
+pub fn measure(
+    s: &[u8],
+    w: usize,
+    h: usize,
+    east: &mut [u8],
+    south: &mut [u8],
+    west: &mut [u8],
+    north: &mut [u8],
+)
+    requires { ⌜ Lent w h (now s) (now east) (now south) (now west) (now north) ⌝ }
+    ensures { λ _. ⌜ Measured w h (now (s .entry)) (now (east .exit)) (now (south .exit)) (now (west .exit)) (now (north .exit)) ⌝ }
+{
+    sheet::east(s, w, h, east);
+    sheet::south(s, w, h, south);
+    sheet::west(s, w, h, west);
+    sheet::north(s, w, h, north);
+}
+
+// Whether home's distance that way leaves room for the offset: it is none, or the offset is less. No other function compares the two.
+fn enough(offset: usize, n: u8) -> bool
+    ensures { λ r. ⌜ r ≡ enoughOf offset n ⌝ }
+{
+    if n == NONE {
+        return true;
+    }
+    offset < n as usize
+}
+
+// Whether one axis lets home at m be assured for the place at p, with home's distances upwards and downwards on it.
+fn axis(up: u8, down: u8, m: usize, p: usize) -> bool
+    ensures { λ r. ⌜ r ≡ axisOf up down m p ⌝ }
+{
+    if m < p {
+        return enough(p - m, up);
+    }
+    if p < m {
+        return enough(m - p, down);
+    }
+    true
+}
+
+// Whether home (hx, hy) is assured for (x, y).
+pub fn assured(s: &[u8], w: usize, h: usize, hx: usize, hy: usize, x: usize, y: usize) -> bool
+    requires { ⌜ AskedHome w h (now s) hx hy x y ⌝ }
+    ensures { λ r. ⌜ ((r ≡ true) ↔ Assured w h (Marked (now (s .entry)) w h) hx hy x y) ⌝ }
+{
+    if mark(s, w, h, hx, hy) != 0 {
+        return false;
+    }
+    if mark(s, w, h, x, y) != 0 {
+        return false;
+    }
+    let d = distances(s, w, h, hx, hy);
+    if axis(d[0], d[2], hx, x) {
+        return axis(d[3], d[1], hy, y);
+    }
+    false
+}
