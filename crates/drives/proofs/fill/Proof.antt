@@ -1,0 +1,119 @@
+-- `fill` meets its promise. What `region` finds settles the first two refusals, the route's length the third, and the drive that is written is
+-- the chooser's.
+use mathlib.Core.Path.{_≡_, refl}
+use Prim.Native.Nat.{_+_, _<_, _≤_}
+use native.Mathlib.Omega.{arith}
+use Rattle.drives.proofs.RouteLaws.{dist-small, written-filling}
+use borrow.Author.Needs.{needs}
+use Rattle.drives.proofs.fill.Statement.{statement}
+use Rattle.drives.proofs.fill.Tie as tie
+
+region-requires : tie.Need-region-requires
+region-requires c κs = search needs
+
+enum-told : tie.Need-enum-told
+enum-told c = search needs
+
+enum-told-2 : tie.Need-enum-told-2
+enum-told-2 c = search needs
+
+enum-told-3 : tie.Need-enum-told-3
+enum-told-3 c = search needs
+
+offset-requires : tie.Need-offset-requires
+offset-requires c κs = search needs
+
+offset-requires-2 : tie.Need-offset-requires-2
+offset-requires-2 c κs = search needs
+
+add-n : tie.Need-add-n
+add-n c =
+    let r = c .before .before .before .before .before .before in
+    omega (arith, c .before .offset .ensures, c .offset2 .ensures, dist-small (r .before .before .before .before .before .pre))
+
+add-n-2 : tie.Need-add-n-2
+add-n-2 c =
+    let r = c .before .before .before .before .before .before in
+    omega (arith, c .before .offset .ensures, c .offset2 .ensures, dist-small (r .before .before .before .before .before .pre))
+
+same-length : tie.Need-same-length
+same-length c = search needs
+
+returns : tie.Need-returns
+returns c =
+    let e = c .before .before .before in
+    let f = rw (e .enum-told3 .given .1) at (e .before .before .before .before .region .ensures) in
+    (f .0, f .1, omega (arith, c .if1 .taken, c .before .before .offset .ensures, c .before .offset2 .ensures), refl)
+
+write-drive-requires : tie.Need-write-drive-requires
+write-drive-requires c κs =
+    let o = c .before .before .before in
+    let e = o .before .before in
+    let r = e .before .before .before .before in
+    let p = r .before .before .before .before .before .pre in
+    let f = rw (e .enum-told3 .given .1) at (r .region .ensures) in
+    record {
+      looked = record { sides = p .sides; size = f .1 .size; from = p .to; to = p .from };
+      closed = r .before .before .before .before .before .args .s .now;
+      sheet = f .1;
+      some = f .0;
+      room = omega (arith, c .before .before .if1 .left, o .before .offset .ensures, o .offset2 .ensures);
+    }
+
+same-length-2 : tie.Need-same-length-2
+same-length-2 c = search needs
+
+returns-2 : tie.Need-returns-2
+returns-2 c =
+    let f = rw (c .enum-told .given .1) at (c .before .before .before .before .region .ensures) in
+    (f .0, f .1, refl)
+
+same-length-3 : tie.Need-same-length-3
+same-length-3 c = search needs
+
+returns-3 : tie.Need-returns-3
+returns-3 c =
+    let f = rw (c .enum-told2 .given .1) at (c .before .before .before .before .region .ensures) in
+    (f .0, f .1, refl)
+
+same-length-4 : tie.Need-same-length-4
+same-length-4 c = search needs
+
+same-length-5 : tie.Need-same-length-5
+same-length-5 c = search needs
+
+returns-4 : tie.Need-returns-4
+returns-4 c =
+    let d = c .before .before in
+    let l = d .before .before .before in
+    let o = l .before in
+    let e = o .before .before in
+    let r = e .before .before .before .before in
+    let f = rw (e .enum-told3 .given .1) at (r .region .ensures) in (
+      f .0,
+      f .1,
+      written-filling _ _ _ _ _ _ _ _ _ _ _ _ _ (f .1) (f .0) (omega (arith, o .before .offset .ensures, o .offset2 .ensures)) (l .if1 .left) (d .write-drive .ensures),
+    )
+
+pub fill-spec : {M : Type 1} → statement M
+fill-spec =
+    tie.close
+    (tie.spec
+    region-requires
+    enum-told
+    enum-told-2
+    enum-told-3
+    offset-requires
+    offset-requires-2
+    add-n
+    add-n-2
+    same-length
+    returns
+    write-drive-requires
+    same-length-2
+    returns-2
+    same-length-3
+    returns-3
+    same-length-4
+    same-length-5
+    returns-4)

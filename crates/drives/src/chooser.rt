@@ -1,0 +1,104 @@
+// The chooser: its choice at a crossing, and the drive that it makes.
+ghost use mathlib.Core.Path.{_≡_};
+ghost use Prim.Native.Nat.{ℕ, _+_, _*_, _<_, _≤_};
+ghost use Rattle.field.specs.Map.{gap};
+ghost use Rattle.drives.specs.Hops.{Choosable, Chose, Steered, Written};
+use super::draw;
+use super::looks::east_west;
+use super::looks::hop;
+use super::looks::north_south;
+use super::looks::number_of;
+
+// Where the chooser goes, and the state after its choice.
+pub struct Choice {
+    pub x: usize,
+    pub y: usize,
+    pub state: u32,
+}
+
+// The offset along one axis.
+pub fn offset(a: usize, b: usize) -> usize
+    ensures { λ r. ⌜ r ≡ gap a b ⌝ }
+{
+    if a < b {
+        return b - a;
+    }
+    a - b
+}
+
+// The choice at (x, y) in state z. The candidates are the marked hops towards d: with two, draw, and the top bit 0 takes the east-west one; with
+// one, take it and leave the state.
+pub fn choose(
+    g: &[u8],
+    w: usize,
+    h: usize,
+    dx: usize,
+    dy: usize,
+    x: usize,
+    y: usize,
+    z: u32,
+) -> Choice
+    requires { ⌜ Choosable w h (now g) dx dy x y ⌝ }
+    ensures { λ r. ⌜ Chose w h (now (g .entry)) dx dy x y z r ⌝ }
+{
+    if east_west(g, w, h, dx, dy, x, y) {
+        if north_south(g, w, h, dx, dy, x, y) {
+            let t = draw(z);
+            if t < 2147483648 {
+                return Choice {
+                    x: hop(x, dx),
+                    y: y,
+                    state: t,
+                };
+            }
+            return Choice {
+                x: x,
+                y: hop(y, dy),
+                state: t,
+            };
+        }
+        return Choice {
+            x: hop(x, dx),
+            y: y,
+            state: z,
+        };
+    }
+    Choice {
+        x: x,
+        y: hop(y, dy),
+        state: z,
+    }
+}
+
+// Writes the chooser's drive from (sx, sy) in state z to the route's front, and hands back the state after it. There are as many hops as the
+// distance; k of them are made.
+pub fn write_drive(
+    g: &[u8],
+    w: usize,
+    h: usize,
+    sx: usize,
+    sy: usize,
+    dx: usize,
+    dy: usize,
+    z: u32,
+    route: &mut [u16],
+) -> u32
+    requires { ⌜ Steered w h (now g) sx sy dx dy (now route) ⌝ }
+    ensures { λ r. ⌜ Written w h (now (g .entry)) sx sy dx dy z (now (route .entry)) (now (route .exit)) r ⌝ }
+{
+    let n = offset(sx, dx) + offset(sy, dy);
+    let mut x = sx;
+    let mut y = sy;
+    let mut state = z;
+    let mut k = 0;
+    while k < n {
+        route[k] = number_of(w, h, x, y) as u16;
+        let c = choose(g, w, h, dx, dy, x, y, state);
+        x = c.x;
+        y = c.y;
+        state = c.state;
+        k += 1;
+    }
+    route[k] = number_of(w, h, x, y) as u16;
+    state
+}

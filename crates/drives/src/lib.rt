@@ -1,0 +1,149 @@
+// The region of shortest drives, and the chooser's drive, over a sheet that marks the closed crossings.
+mod chooser;
+mod looks;
+mod passes;
+
+ghost use mathlib.Core.Path.{_≡_};
+ghost use Prim.Native.Nat.{ℕ, _+_, _*_, _%_, _<_, _≤_};
+ghost use lib.ListN.{length, take};
+ghost use Rattle.field.specs.Chooser.{drawn};
+ghost use Rattle.drives.specs.Promise.{Asked, Regioned, Makes, Drives};
+
+// What asking for the region finds: an end closed (8), no shortest drive (9), or some.
+pub enum Found {
+    EndClosed,
+    Nowhere,
+    Somewhere,
+}
+
+// What asking for a drive makes: nothing, an end being closed (8), there being no shortest drive (9) or the route too short (10); or so many
+// crossings at the route's front, and the state after it.
+pub enum Made {
+    Closed,
+    NoDrive,
+    Short,
+    Filled(usize, u32),
+}
+
+// The region from (sx, sy) to (dx, dy) into a lent sheet, which is its own working memory. A pass from s marks what a shortest drive from s
+// reaches inside the rectangle that s and d span; a pass from d then keeps what also reaches d. With an end closed the sheet stays as it was;
+// with no shortest drive it ends all 0, and then s itself has no mark.
+pub fn region(
+    s: &[u8],
+    w: usize,
+    h: usize,
+    sx: usize,
+    sy: usize,
+    dx: usize,
+    dy: usize,
+    g: &mut [u8],
+) -> Found
+    requires { ⌜ Asked w h (now s) (now g) sx sy dx dy ⌝ }
+    ensures { λ r. ⌜ Regioned w h (now (s .entry)) sx sy dx dy (now (g .entry)) (now (g .exit)) r ⌝ }
+{
+    let i = looks::number_of(w, h, sx, sy);
+    if s[i] != 0 {
+        return Found::EndClosed;
+    }
+    let j = looks::number_of(w, h, dx, dy);
+    if s[j] != 0 {
+        return Found::EndClosed;
+    }
+    passes::wipe(g);
+    passes::spread(s, w, h, sx, sy, dx, dy, g);
+    passes::sift(w, h, dx, dy, sx, sy, g);
+    if g[i] == 0 {
+        return Found::Nowhere;
+    }
+    Found::Somewhere
+}
+
+// a × b, modulo 2^32: the product of two 32-bit numbers fits 64 bits.
+fn wrapping_product(a: u32, b: u32) -> u32
+    ensures { λ r. ⌜ r ≡ (a * b) % 4294967296 ⌝ }
+{
+    let p = (a as u64) * (b as u64);
+    (p % 4294967296) as u32
+}
+
+// The generator's next state: 1664525 × z + 1013904223, modulo 2^32.
+pub fn draw(z: u32) -> u32
+    ensures { λ r. ⌜ r ≡ drawn z ⌝ }
+{
+    std::num::wrapping_add_u32(wrapping_product(1664525, z), 1013904223)
+}
+
+// The chooser's drive from (sx, sy) to (dx, dy) in state z, into the front of a lent route; the rest of the route stays. The region comes
+// first, and only when there is a shortest drive is the route's length looked at: at 8, 9 and 10 the route stays as it was.
+pub fn fill(
+    s: &[u8],
+    w: usize,
+    h: usize,
+    sx: usize,
+    sy: usize,
+    dx: usize,
+    dy: usize,
+    z: u32,
+    g: &mut [u8],
+    route: &mut [u16],
+) -> Made
+    requires { ⌜ Asked w h (now s) (now g) sx sy dx dy ⌝ }
+    ensures { λ r. ⌜ Makes w h (now (s .entry)) sx sy dx dy z (now (g .entry)) (now (g .exit)) (now (route .entry)) (now (route .exit)) r ⌝ }
+{
+    let found = region(s, w, h, sx, sy, dx, dy, g);
+    match found {
+        Found::EndClosed => Made::Closed,
+        Found::Nowhere => Made::NoDrive,
+        Found::Somewhere => {
+            let n = chooser::offset(sx, dx) + chooser::offset(sy, dy) + 1;
+            if route.len() < n {
+                return Made::Short;
+            }
+            let state = chooser::write_drive(g, w, h, sx, sy, dx, dy, z, route);
+            Made::Filled(n, state)
+        }
+    }
+}
+
+// The chooser's drive from (sx, sy) to (dx, dy) in the lent state, handed back as the leading part of the lent route: s first and d last, and on
+// a refusal empty. The refusal's number, 0 on success, goes out through `refusal`. The promise speaks of the part that is handed back, and of the
+// route as `fill` leaves it; it cannot speak of the caller's whole slice as this call ends, since the part handed back still borrows it. That the
+// rest of the route is unchanged is what `fill` promises, and nothing is written after it.
+pub fn drive<'a>(
+    s: &[u8],
+    w: usize,
+    h: usize,
+    sx: usize,
+    sy: usize,
+    dx: usize,
+    dy: usize,
+    g: &mut [u8],
+    route: &'a mut [u16],
+    refusal: &mut u8,
+    state: &mut u32,
+) -> &'a mut [u16]
+    requires { ⌜ Asked w h (now s) (now g) sx sy dx dy ⌝ }
+    ensures { λ r. ⌜ Drives w h (now (s .entry)) sx sy dx dy (now (state .entry)) (now (g .entry)) (now (g .exit)) (now (route .entry)) (now r) (now (refusal .exit)) (now (state .exit)) ⌝ }
+{
+    let z = *state;
+    let made = fill(s, w, h, sx, sy, dx, dy, z, g, route);
+    match made {
+        Made::Closed => {
+            *refusal = 8;
+            &mut route[..0]
+        }
+        Made::NoDrive => {
+            *refusal = 9;
+            &mut route[..0]
+        }
+        Made::Short => {
+            *refusal = 10;
+            &mut route[..0]
+        }
+        Made::Filled(n, after) => {
+            *refusal = 0;
+            *state = after;
+            &mut route[..n]
+        }
+    }
+}
