@@ -1,0 +1,78 @@
+-- `measure` meets its promise: the four sheets over the label sheet's marks are those over the closed crossings.
+use mathlib.Core.Path.{refl, sym}
+use Rattle.field.specs.Workings.SameLaws.{distance-sheet-same}
+use Rattle.askings.proofs.Bridge.{marked-alike, labelled-fits}
+use borrow.Author.Needs.{needs}
+use Rattle.askings.proofs.measure.Statement.{statement}
+use Rattle.askings.proofs.measure.Tie as tie
+
+returns : tie.Need-returns
+returns c = record { number = refl; refused = λ _. (refl, refl, refl, refl, refl); done = λ e. absurd (c .if1 .taken e) }
+
+label-requires : tie.Need-label-requires
+label-requires c κs =
+    let none = c .before in
+    none .before .before .before .before .before .before .pre .stamped (none .if1 .left)
+
+measure-requires : tie.Need-measure-requires
+measure-requires c κs =
+    let labelled = c .before .before .before .before .before .before .before in
+    let none = labelled .before .before in
+    let pre = none .before .before .before .before .before .before .pre in
+    let sizes = pre .sizes (none .if1 .left) in
+    record {
+      fits = labelled-fits (labelled .label .ensures .sheet) (pre .stamped (none .if1 .left) .sides);
+      east = sizes .0;
+      south = sizes .1;
+      west = sizes .2;
+      north = sizes .3;
+    }
+
+same-length : tie.Need-same-length
+same-length c = search needs
+
+same-length-2 : tie.Need-same-length-2
+same-length-2 c = search needs
+
+same-length-3 : tie.Need-same-length-3
+same-length-3 c = search needs
+
+same-length-4 : tie.Need-same-length-4
+same-length-4 c = search needs
+
+same-length-5 : tie.Need-same-length-5
+same-length-5 c = search needs
+
+returns-2 : tie.Need-returns-2
+returns-2 c =
+    let measured = c .before .before .before .before .before .before .before .before in
+    let labelled = measured .before .before .before .before .before .before .before .before in
+    let none = labelled .before .before in
+    let sheet = labelled .label .ensures .sheet in
+    let alike = marked-alike sheet in
+    let told = measured .measure .ensures in
+    record {
+      number = sym (none .if1 .left);
+      refused = λ n. absurd (n (none .if1 .left));
+      done = λ _. (
+        sheet,
+        distance-sheet-same _ _ alike (told .east),
+        distance-sheet-same _ _ alike (told .south),
+        distance-sheet-same _ _ alike (told .west),
+        distance-sheet-same _ _ alike (told .north),
+      );
+    }
+
+pub measure-spec : {M : Type 1} → statement M
+measure-spec =
+    tie.close
+    (tie.spec
+    returns
+    label-requires
+    measure-requires
+    same-length
+    same-length-2
+    same-length-3
+    same-length-4
+    same-length-5
+    returns-2)

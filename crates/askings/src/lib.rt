@@ -1,0 +1,203 @@
+// The second part of each asking, over a lent label sheet on which the rocks are stamped. n is the refusal that was found before, or 0. At a refusal
+// nothing lent is touched and the answer is the number with zeros. Else the sheet is labelled first, and then the question is answered over it.
+mod answers; // answers.rt: the questions over a label sheet
+mod refusals; // refusals.rt: their numbers
+
+use refusals::SUCCESS;
+ghost use Rattle.askings.specs.Promise.{MayLabel, MayAsk, MayAskTwo, MayMeasure, MayDrive};
+ghost use Rattle.askings.specs.Promise.{LabelRest, DistancesRest, MeasureRest, AssuredRest, HopRest, RegionRest, DriveRest};
+
+// The numbers of rocks' crossings, shut crossings and groups, or the refusal.
+#[repr(C)]
+pub struct Labelling {
+    pub refusal: u8,
+    pub rocks: usize,
+    pub shut: usize,
+    pub groups: usize,
+}
+
+// The four distances of a crossing, east, south, west, north, or the refusal.
+#[repr(C)]
+pub struct Four {
+    pub refusal: u8,
+    pub four: [u8; 4],
+}
+
+// Whether home is assured, or the refusal.
+#[repr(C)]
+pub struct Assurance {
+    pub refusal: u8,
+    pub assured: bool,
+}
+
+// How many hops homeward are permitted, none at home, and where they lead, the east-west one first; or the refusal.
+#[repr(C)]
+pub struct Homeward {
+    pub refusal: u8,
+    pub hops: u8,
+    pub x: usize,
+    pub y: usize,
+    pub a: usize,
+    pub b: usize,
+}
+
+// How many crossings of the route were filled, or the refusal.
+#[repr(C)]
+pub struct Drove {
+    pub refusal: u8,
+    pub length: usize,
+}
+
+// Labels the sheet, and hands back the numbers of rocks' crossings, shut crossings and groups.
+pub fn label(n: u8, w: usize, h: usize, labels: &mut [u8]) -> Labelling
+    requires { ⌜ MayLabel n w h (now labels) ⌝ }
+    ensures { λ r. ⌜ LabelRest n w h (now (labels .entry)) (now (labels .exit)) r ⌝ }
+{
+    if n != SUCCESS {
+        return Labelling {
+            refusal: n,
+            rocks: 0,
+            shut: 0,
+            groups: 0,
+        };
+    }
+    let counts = labels::label(labels, w, h);
+    Labelling {
+        refusal: SUCCESS,
+        rocks: counts.rocks,
+        shut: counts.shut,
+        groups: counts.groups,
+    }
+}
+
+// The four distances of (x, y).
+pub fn distances(n: u8, w: usize, h: usize, x: usize, y: usize, labels: &mut [u8]) -> Four
+    requires { ⌜ MayAsk n w h x y (now labels) ⌝ }
+    ensures { λ r. ⌜ DistancesRest n w h x y (now (labels .entry)) (now (labels .exit)) r ⌝ }
+{
+    if n != SUCCESS {
+        return Four {
+            refusal: n,
+            four: [0, 0, 0, 0],
+        };
+    }
+    labels::label(labels, w, h);
+    let four = distances::distances(labels, w, h, x, y);
+    Four {
+        refusal: SUCCESS,
+        four,
+    }
+}
+
+// The distances of the whole map, one lent sheet for each way.
+pub fn measure(
+    n: u8,
+    w: usize,
+    h: usize,
+    labels: &mut [u8],
+    east: &mut [u8],
+    south: &mut [u8],
+    west: &mut [u8],
+    north: &mut [u8],
+) -> u8
+    requires { ⌜ MayMeasure n w h (now labels) (now east) (now south) (now west) (now north) ⌝ }
+    ensures { λ r. ⌜ MeasureRest n w h (now (labels .entry)) (now (east .entry)) (now (south .entry)) (now (west .entry)) (now (north .entry)) (now (labels .exit)) (now (east .exit)) (now (south .exit)) (now (west .exit)) (now (north .exit)) r ⌝ }
+{
+    if n != SUCCESS {
+        return n;
+    }
+    labels::label(labels, w, h);
+    distances::measure(labels, w, h, east, south, west, north);
+    SUCCESS
+}
+
+// Whether home (hx, hy) is assured for (x, y).
+pub fn assured(
+    n: u8,
+    w: usize,
+    h: usize,
+    hx: usize,
+    hy: usize,
+    x: usize,
+    y: usize,
+    labels: &mut [u8],
+) -> Assurance
+    requires { ⌜ MayAskTwo n w h hx hy x y (now labels) ⌝ }
+    ensures { λ r. ⌜ AssuredRest n w h hx hy x y (now (labels .entry)) (now (labels .exit)) r ⌝ }
+{
+    if n != SUCCESS {
+        return Assurance {
+            refusal: n,
+            assured: false,
+        };
+    }
+    labels::label(labels, w, h);
+    answers::assured(labels, w, h, hx, hy, x, y)
+}
+
+// The permitted hops from (x, y) towards home (hx, hy).
+pub fn hop(
+    n: u8,
+    w: usize,
+    h: usize,
+    hx: usize,
+    hy: usize,
+    x: usize,
+    y: usize,
+    labels: &mut [u8],
+) -> Homeward
+    requires { ⌜ MayAskTwo n w h hx hy x y (now labels) ⌝ }
+    ensures { λ r. ⌜ HopRest n w h hx hy x y (now (labels .entry)) (now (labels .exit)) r ⌝ }
+{
+    if n != SUCCESS {
+        return answers::no_hop(n);
+    }
+    labels::label(labels, w, h);
+    answers::hop(labels, w, h, hx, hy, x, y)
+}
+
+// The region of shortest drives from (sx, sy) to (dx, dy), into a lent sheet.
+pub fn region(
+    n: u8,
+    w: usize,
+    h: usize,
+    sx: usize,
+    sy: usize,
+    dx: usize,
+    dy: usize,
+    labels: &mut [u8],
+    region: &mut [u8],
+) -> u8
+    requires { ⌜ MayDrive n w h sx sy dx dy (now labels) (now region) ⌝ }
+    ensures { λ r. ⌜ RegionRest n w h sx sy dx dy (now (labels .entry)) (now (region .entry)) (now (labels .exit)) (now (region .exit)) r ⌝ }
+{
+    if n != SUCCESS {
+        return n;
+    }
+    labels::label(labels, w, h);
+    answers::region(labels, w, h, sx, sy, dx, dy, region)
+}
+
+// The chooser's drive from (sx, sy) to (dx, dy) in the lent state, at the front of a lent route; the lent sheet holds the region.
+pub fn drive(
+    n: u8,
+    w: usize,
+    h: usize,
+    sx: usize,
+    sy: usize,
+    dx: usize,
+    dy: usize,
+    labels: &mut [u8],
+    region: &mut [u8],
+    route: &mut [u16],
+    state: &mut u32,
+) -> Drove
+    requires { ⌜ MayDrive n w h sx sy dx dy (now labels) (now region) ⌝ }
+    ensures { λ r. ⌜ DriveRest n w h sx sy dx dy (now (labels .entry)) (now (region .entry)) (now (route .entry)) (now (state .entry)) (now (labels .exit)) (now (region .exit)) (now (route .exit)) (now (state .exit)) r ⌝ }
+{
+    if n != SUCCESS {
+        return answers::no_crossings(n);
+    }
+    labels::label(labels, w, h);
+    answers::drive(labels, w, h, sx, sy, dx, dy, region, route, state)
+}
