@@ -7,6 +7,9 @@ use refusals::SUCCESS;
 ghost use Rattle.askings.specs.Promise.{MayLabel, MayAsk, MayAskTwo, MayMeasure, MayDrive};
 ghost use Rattle.askings.specs.Promise.{LabelRest, DistancesRest, MeasureRest, AssuredRest, HopRest, RegionRest, DriveRest};
 
+// n where no refusal was found before.
+const UNREFUSED: u8 = 0;
+
 // The numbers of rocks' crossings, shut crossings and groups, or the refusal.
 #[repr(C)]
 pub struct Labelling {
@@ -53,7 +56,7 @@ pub fn label(n: u8, w: usize, h: usize, labels: &mut [u8]) -> Labelling
     requires { ⌜ MayLabel n w h (now labels) ⌝ }
     ensures { λ r. ⌜ LabelRest n w h (now (labels .entry)) (now (labels .exit)) r ⌝ }
 {
-    if n != SUCCESS {
+    if n != UNREFUSED {
         return Labelling {
             refusal: n,
             rocks: 0,
@@ -75,7 +78,7 @@ pub fn distances(n: u8, w: usize, h: usize, x: usize, y: usize, labels: &mut [u8
     requires { ⌜ MayAsk n w h x y (now labels) ⌝ }
     ensures { λ r. ⌜ DistancesRest n w h x y (now (labels .entry)) (now (labels .exit)) r ⌝ }
 {
-    if n != SUCCESS {
+    if n != UNREFUSED {
         return Four {
             refusal: n,
             four: [0, 0, 0, 0],
@@ -103,7 +106,7 @@ pub fn measure(
     requires { ⌜ MayMeasure n w h (now labels) (now east) (now south) (now west) (now north) ⌝ }
     ensures { λ r. ⌜ MeasureRest n w h (now (labels .entry)) (now (east .entry)) (now (south .entry)) (now (west .entry)) (now (north .entry)) (now (labels .exit)) (now (east .exit)) (now (south .exit)) (now (west .exit)) (now (north .exit)) r ⌝ }
 {
-    if n != SUCCESS {
+    if n != UNREFUSED {
         return n;
     }
     labels::label(labels, w, h);
@@ -125,7 +128,7 @@ pub fn assured(
     requires { ⌜ MayAskTwo n w h hx hy x y (now labels) ⌝ }
     ensures { λ r. ⌜ AssuredRest n w h hx hy x y (now (labels .entry)) (now (labels .exit)) r ⌝ }
 {
-    if n != SUCCESS {
+    if n != UNREFUSED {
         return Assurance {
             refusal: n,
             assured: false,
@@ -149,7 +152,7 @@ pub fn hop(
     requires { ⌜ MayAskTwo n w h hx hy x y (now labels) ⌝ }
     ensures { λ r. ⌜ HopRest n w h hx hy x y (now (labels .entry)) (now (labels .exit)) r ⌝ }
 {
-    if n != SUCCESS {
+    if n != UNREFUSED {
         return answers::no_hop(n);
     }
     labels::label(labels, w, h);
@@ -171,7 +174,7 @@ pub fn region(
     requires { ⌜ MayDrive n w h sx sy dx dy (now labels) (now region) ⌝ }
     ensures { λ r. ⌜ RegionRest n w h sx sy dx dy (now (labels .entry)) (now (region .entry)) (now (labels .exit)) (now (region .exit)) r ⌝ }
 {
-    if n != SUCCESS {
+    if n != UNREFUSED {
         return n;
     }
     labels::label(labels, w, h);
@@ -195,7 +198,7 @@ pub fn drive(
     requires { ⌜ MayDrive n w h sx sy dx dy (now labels) (now region) ⌝ }
     ensures { λ r. ⌜ DriveRest n w h sx sy dx dy (now (labels .entry)) (now (region .entry)) (now (route .entry)) (now (state .entry)) (now (labels .exit)) (now (region .exit)) (now (route .exit)) (now (state .exit)) r ⌝ }
 {
-    if n != SUCCESS {
+    if n != UNREFUSED {
         return answers::no_crossings(n);
     }
     labels::label(labels, w, h);
