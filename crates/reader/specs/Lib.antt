@@ -1,3 +1,5 @@
--- What the map reader promises.
+-- What the map reader promises, that its outcome is one, and what stands in the list after it.
 pub mod Promise
 pub mod Parts
+pub mod Outcome
+pub mod Entered
