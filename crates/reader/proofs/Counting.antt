@@ -10,8 +10,8 @@ use Rattle.mapfile.specs.Raster.{packedBit, RawRaster}
 use Rattle.mapfile.specs.RasterWorking.{rawBits}
 use Rattle.mapfile.specs.RasterLaws.{raw-raster}
 use Rattle.mapfile.specs.MarkerLaws.{ones, ones-le, ones-snoc}
-use Rattle.reader.specs.Parts.{placeOf, RawRows, MayStep, Steps, MayLook}
-use Rattle.reader.specs.declared.Place.{Place}
+use Rattle.reader.specs.RasterParts.{placeOf, RawRows, MayStep, Steps, MayLook}
+use Rattle.reader.specs.declared.raster.Place.{Place}
 use Rattle.reader.proofs.Limits.{crossings-few}
 use Rattle.reader.proofs.Rows.{place-below, rows-end, byte-below, take-next}
 

@@ -13,7 +13,7 @@ use Rattle.markers.specs.Promise.{marker, listOf, Parallel}
 use Rattle.markers.specs.Laws.Slices.{marker-same}
 use Rattle.mapfile.specs.File.{markersFrom, markersOf}
 use Rattle.mapfile.specs.MarkerLaws.{ones, ones-snoc, markerAt, markers-length, markers-append}
-use Rattle.reader.specs.Parts.{slotBit, countBit, EntersBit}
+use Rattle.reader.specs.RasterParts.{slotBit, countBit, EntersBit}
 
 pub listOf-set : (ids xs ys : List ℕ) (n i x y : ℕ) → listOf (set ids n i) (set xs n x) (set ys n y) ≡ set (listOf ids xs ys) n (marker i x y)
 unfolding listOf

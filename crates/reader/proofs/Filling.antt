@@ -12,8 +12,8 @@ use Rattle.markers.specs.Laws.Slices.{listOf-length}
 use Rattle.mapfile.specs.File.{markersOf}
 use Rattle.mapfile.specs.MarkerLaws.{ones, ones-append, ones-snoc}
 use Rattle.mapfile.specs.RockLaws.{AreBits}
-use Rattle.reader.specs.Parts.{placeOf, MayStep, Steps, MayEnterBit, slotBit, countBit, EntersBit}
-use Rattle.reader.specs.declared.Place.{Place}
+use Rattle.reader.specs.RasterParts.{placeOf, MayStep, Steps, MayEnterBit, slotBit, countBit, EntersBit}
+use Rattle.reader.specs.declared.raster.Place.{Place}
 use Rattle.reader.proofs.Rows.{place-below, rows-end, take-next}
 use Rattle.reader.proofs.Entering.{Filling, filling-start, filling-bit}
 

@@ -12,8 +12,8 @@ use Rattle.mapfile.specs.RasterLaws.{digits-are}
 use Rattle.mapfile.specs.File.{plain, markersOf}
 use Rattle.mapfile.specs.MarkerLaws.{ones}
 use Rattle.mapfile.specs.RockLaws.{raster-bits, markers-count}
-use Rattle.reader.specs.Parts.{placeOf, MayFill, Fills, BitByte, zero-byte, one-byte, Steps, EntersBit}
-use Rattle.reader.specs.declared.Place.{Place}
+use Rattle.reader.specs.RasterParts.{placeOf, MayFill, Fills, BitByte, zero-byte, one-byte, Steps, EntersBit}
+use Rattle.reader.specs.declared.raster.Place.{Place}
 use Rattle.reader.proofs.Rows.{row-below, take-next}
 use Rattle.reader.proofs.Skipping.{left-cons}
 use Rattle.reader.proofs.Filling.{Room, FillingAt, fill-end}

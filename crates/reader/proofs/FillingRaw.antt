@@ -11,8 +11,8 @@ use Rattle.mapfile.specs.RasterLaws.{raw-raster, raw-raster-one}
 use Rattle.mapfile.specs.File.{raw, markersOf}
 use Rattle.mapfile.specs.MarkerLaws.{ones}
 use Rattle.mapfile.specs.RockLaws.{raster-bits, markers-count}
-use Rattle.reader.specs.Parts.{placeOf, MayLook, MayFill, Fills}
-use Rattle.reader.specs.declared.Place.{Place}
+use Rattle.reader.specs.RasterParts.{placeOf, MayLook, MayFill, Fills}
+use Rattle.reader.specs.declared.raster.Place.{Place}
 use Rattle.reader.proofs.Rows.{rows-end, byte-below}
 use Rattle.reader.proofs.Filling.{Room, FillingAt, fill-end}
 

@@ -23,13 +23,13 @@ use Rattle.mapfile.specs.HeaderWorking.{
 }
 use Rattle.mapfile.specs.HeaderSound.{header-sound}
 use Rattle.mapfile.specs.HeaderComplete.{header-complete}
-use Rattle.reader.specs.Parts.{GapRead, NumeralRead, HeadRead}
-use Rattle.reader.specs.declared.Gap.{Gap}
-use Rattle.reader.specs.declared.Gap.the-variants.{Ends, Missing}
-use Rattle.reader.specs.declared.Numeral.{Numeral}
-use Rattle.reader.specs.declared.Numeral.the-variants.{Value as NumeralValue, Missing as NumeralMissing}
-use Rattle.reader.specs.declared.Head.{Head}
-use Rattle.reader.specs.declared.Head.the-variants.{Sides as HeadSides, Missing as HeadMissing}
+use Rattle.reader.specs.HeaderParts.{GapRead, NumeralRead, HeadRead}
+use Rattle.reader.specs.declared.header.Gap.{Gap}
+use Rattle.reader.specs.declared.header.Gap.the-variants.{Ends, Missing}
+use Rattle.reader.specs.declared.header.Numeral.{Numeral}
+use Rattle.reader.specs.declared.header.Numeral.the-variants.{Value as NumeralValue, Missing as NumeralMissing}
+use Rattle.reader.specs.declared.header.Head.{Head}
+use Rattle.reader.specs.declared.header.Head.the-variants.{Sides as HeadSides, Missing as HeadMissing}
 use Rattle.reader.proofs.Skipping.{left-cons}
 
 module _ (s : List ℕ) (at : ℕ) where

@@ -28,19 +28,8 @@ use Rattle.mapfile.specs.File.{
   NoSlot,
 }
 use Rattle.reader.specs.Promise.{Taken, Turned, Reads}
-use Rattle.reader.specs.Parts.{
-  RasterOf,
-  JudgedAs,
-  HasRoom,
-  MayFill,
-  Fills,
-  MayReadRaster,
-  RasterTaken,
-  RasterOver,
-  RasterTurned,
-  RasterReads,
-}
-use Rattle.reader.specs.declared.Judged.{Judged}
+use Rattle.reader.specs.RasterParts.{RasterOf, JudgedAs, HasRoom, MayFill, Fills, MayReadRaster, RasterTaken, RasterOver, RasterTurned, RasterReads}
+use Rattle.reader.specs.declared.raster.Judged.{Judged}
 use Rattle.reader.specs.declared.Reading.{Reading}
 use Rattle.reader.specs.declared.Reading.the-variants.{Map, Refused}
 

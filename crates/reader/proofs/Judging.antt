@@ -10,8 +10,8 @@ use Rattle.mapfile.specs.RasterWorking.{rawBits}
 use Rattle.mapfile.specs.RasterLaws.{raw-raster}
 use Rattle.mapfile.specs.File.{plain, raw, markersOf}
 use Rattle.mapfile.specs.MarkerLaws.{ones, markers-length}
-use Rattle.reader.specs.Parts.{RasterOf, JudgedAs}
-use Rattle.reader.specs.declared.Judged.{Judged}
+use Rattle.reader.specs.RasterParts.{RasterOf, JudgedAs}
+use Rattle.reader.specs.declared.raster.Judged.{Judged}
 
 abbrev pub judged : ℕ → ℕ → Judged
 judged n rocks = record { fault = n; rocks = rocks }

@@ -26,7 +26,7 @@ use Rattle.mapfile.specs.Raster.{
 use Rattle.mapfile.specs.RasterLaws.{digits-append}
 use Rattle.mapfile.specs.File.{plain}
 use Rattle.mapfile.specs.MarkerLaws.{ones, ones-le, ones-snoc}
-use Rattle.reader.specs.Parts.{BitByte, zero-byte, one-byte, RasterOf, JudgedAs}
+use Rattle.reader.specs.RasterParts.{BitByte, zero-byte, one-byte, RasterOf, JudgedAs}
 use Rattle.reader.proofs.Limits.{crossings-few}
 use Rattle.reader.proofs.Rows.{take-next}
 use Rattle.reader.proofs.Skipping.{left-cons}

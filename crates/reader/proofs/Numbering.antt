@@ -8,8 +8,8 @@ use native.Mathlib.Nat.{pow-suc, pow-le-pow-right}
 use lib.ListN.{length, getD, drop, drop-of-length-le}
 use Rattle.mapfile.specs.Header.{Digit, most-digits}
 use Rattle.mapfile.specs.HeaderWorking.{Value, value, no-value, endNumber, numberFrom, number-none, number-digit, number-many, number-stop}
-use Rattle.reader.specs.Parts.{NumeralRead, numeralEnd}
-use Rattle.reader.specs.declared.Numeral.{Numeral}
+use Rattle.reader.specs.HeaderParts.{NumeralRead, numeralEnd}
+use Rattle.reader.specs.declared.header.Numeral.{Numeral}
 use Rattle.reader.proofs.Skipping.{left-cons}
 
 pub record Numbering (s : List ℕ) (at v i : ℕ) : Type 0 where

@@ -21,8 +21,8 @@ use Rattle.mapfile.specs.HeaderWorking.{
   comment-ends,
   comment-goes-on,
 }
-use Rattle.reader.specs.Parts.{GapRead, gapEnd}
-use Rattle.reader.specs.declared.Gap.{Gap}
+use Rattle.reader.specs.HeaderParts.{GapRead, gapEnd}
+use Rattle.reader.specs.declared.header.Gap.{Gap}
 
 -- The bytes left, by the first of them.
 pub left-cons : (s : List ℕ) (i : ℕ) → i < length s → drop i s ≡ getD s i 0 ∷ drop (i + 1) s

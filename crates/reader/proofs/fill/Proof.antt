@@ -4,8 +4,8 @@ use Rattle.reader.proofs.fill.Statement.{statement}
 use Rattle.reader.proofs.fill.Tie as tie
 use Rattle.reader.proofs.fill.Reads as reads
 use Rattle.reader.proofs.fill.Lts as lts
-use Rattle.reader.proofs.fill_plain.Reads as fill-plain-reads
-use Rattle.reader.proofs.fill_raw.Reads as fill-raw-reads
+use Rattle.reader.proofs.plain.fill_plain.Reads as fill-plain-reads
+use Rattle.reader.proofs.raw.fill_raw.Reads as fill-raw-reads
 
 -- src/lib.rt:484:9
 fill-plain-requires : tie.Need-fill-plain-requires

@@ -4,8 +4,8 @@ use Rattle.reader.proofs.judge.Statement.{statement}
 use Rattle.reader.proofs.judge.Tie as tie
 use Rattle.reader.proofs.judge.Reads as reads
 use Rattle.reader.proofs.judge.Lts as lts
-use Rattle.reader.proofs.judge_plain.Reads as judge-plain-reads
-use Rattle.reader.proofs.judge_raw.Reads as judge-raw-reads
+use Rattle.reader.proofs.plain.judge_plain.Reads as judge-plain-reads
+use Rattle.reader.proofs.raw.judge_raw.Reads as judge-raw-reads
 
 -- src/lib.rt:465:9
 judge-plain-requires : tie.Need-judge-plain-requires

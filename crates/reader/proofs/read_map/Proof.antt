@@ -1,7 +1,7 @@
 -- `read_map` meets its contract: no header, sides out of bounds, or what reading the raster finds, in that order.
 use borrow.Author.Tests.{not-true, not-false}
 use lib.ListN.{drop}
-use Rattle.reader.specs.Parts.{formatOf}
+use Rattle.reader.specs.RasterParts.{formatOf}
 use Rattle.reader.proofs.Answers.{answered-no}
 use Rattle.reader.proofs.FirstTwo.{letters-long}
 use Rattle.reader.proofs.Heading.{head-found, head-missing}
@@ -12,7 +12,7 @@ use Rattle.reader.proofs.read_map.Tie as tie
 use Rattle.reader.proofs.read_map.Reads as reads
 use Rattle.reader.proofs.read_map.Lts as lts
 use Rattle.reader.proofs.fits.Reads as fits-reads
-use Rattle.reader.proofs.header.Reads as header-reads
+use Rattle.reader.proofs.header.header.Reads as header-reads
 use Rattle.reader.proofs.read_raster.Reads as read-raster-reads
 
 -- src/lib.rt:540:9
