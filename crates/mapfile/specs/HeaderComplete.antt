@@ -1,9 +1,9 @@
 -- What is a header by the grammar the working accepts, with the same numbers and the same rest. A separator's items are skipped whole, since what
 -- follows it is a digit, and a number's digits are, since what follows it is a blank or a #.
-use mathlib.Core.Path.{_≡_, refl, sym, ap, subst, _∙_}
+use mathlib.Core.Path.{_≡_, refl, sym, ap, _∙_}
 use mathlib.Core.Bool.{Bool, true, false}
 use mathlib.Core.List.{List, [], _∷_, _++_, append-assoc}
-use mathlib.Core.Option.{Option, none, some}
+use mathlib.Core.Option.{some}
 use mathlib.Core.Logic.{_⊎_, inl, inr}
 use Prim.Native.Nat.{ℕ, zero, suc, _+_, _*_, _-_, _<_, _≤_}
 use native.Mathlib.Omega.{arith}
@@ -15,7 +15,6 @@ use Rattle.mapfile.specs.Header.{
   return,
   feed,
   LineEnd,
-  Comment,
   Items,
   no-items,
   blank-item,
@@ -34,13 +33,11 @@ use Rattle.mapfile.specs.HeaderWorking.{
   endItems,
   afterItems,
   afterComment,
-  items-none,
   items-hash,
   items-blank,
   items-stop,
   comment-ends,
   comment-goes-on,
-  Value,
   value,
   endNumber,
   numberFrom,
@@ -49,7 +46,6 @@ use Rattle.mapfile.specs.HeaderWorking.{
   number-stop,
   numberAfter,
   nextNumber,
-  lastBlank,
   last-blank-there,
   GivesNumbers,
 }

@@ -1,12 +1,10 @@
 -- The bits of a raster are one, and so is the number of its fault; where there is a fault there is no raster.
-use mathlib.Core.Path.{_≡_, refl, sym, ap, subst, _∙_}
+use mathlib.Core.Path.{_≡_, refl, sym, ap, _∙_}
 use mathlib.Core.List.{List, [], _∷_, _++_, append-nil}
-use Prim.Native.Nat.{ℕ, zero, suc, _+_, _*_, _-_, _<_, _≤_}
+use Prim.Native.Nat.{ℕ, zero, suc, _*_, _-_, _≤_}
 use native.Mathlib.Omega.{arith}
-use lib.ListN.{length, getD}
-use Rattle.field.specs.Map.{On, at}
-use Rattle.field.specs.Workings.Sheet.{sheet, sheet-length, sheet-at, sheet-same}
-use Rattle.mapfile.specs.Header.{Blank}
+use lib.ListN.{length}
+use Rattle.field.specs.Workings.Sheet.{sheet-length, sheet-at, sheet-same}
 use Rattle.mapfile.specs.Raster.{
   rowBytes,
   packedBit,
@@ -17,7 +15,6 @@ use Rattle.mapfile.specs.Raster.{
   zero-digit,
   one-digit,
   PlainRaster,
-  PlainByte,
   RawFault,
   raw-short,
   raw-long,

@@ -1,20 +1,20 @@
 -- The markers of a map file stand exactly on its rocks, all on the map, with ids rising from 1: a marker for each crossing whose bit is 1.
-use mathlib.Core.Path.{_≡_, refl, sym, ap, ap₂, subst, _∙_}
-use mathlib.Core.List.{List, [], _∷_, _++_}
+use mathlib.Core.Path.{_≡_, sym, ap, ap₂, _∙_}
+use mathlib.Core.List.{List}
 use mathlib.Core.Logic.{_↔_}
 use Prim.Native.Nat.{ℕ, zero, suc, _+_, _*_, _-_, _/_, _%_, _<_, _≤_}
 use native.Mathlib.Omega.{arith}
-use native.Mathlib.Nat.{mod-lt, div-add-mod', div-lt-iff-lt-mul, mul-le-mul-right}
+use native.Mathlib.Nat.{mod-lt, div-add-mod', div-lt-iff-lt-mul}
 use native.Mathlib.Decide.{decLt}
 use lib.Arith.{digits-div, digits-mod}
 use lib.ListN.{length, getD, List·getD-eq-default}
 use Rattle.field.specs.declared.Marker.{Marker}
-use Rattle.field.specs.Map.{Sides, On, number}
+use Rattle.field.specs.Map.{Sides, On}
 use Rattle.field.specs.Labels.{Rock, blank}
 use Rattle.field.specs.Workings.Sheet.{number-lt, Crossing, crossing}
-use Rattle.mapfile.specs.Raster.{packedBit, RawRaster, Digits, ended, skip, zero-digit, one-digit, PlainRaster}
+use Rattle.mapfile.specs.Raster.{packedBit, RawRaster, Digits, ended, skip, zero-digit, one-digit}
 use Rattle.mapfile.specs.File.{Format, plain, raw, Raster, MapFile, rasterPlace, FileRock, markersOf}
-use Rattle.mapfile.specs.MarkerLaws.{ones, ones-le, markerAt, markers-length, OfBit, marker-of, HasMarker, of-marker}
+use Rattle.mapfile.specs.MarkerLaws.{ones, ones-le, markerAt, markers-length, marker-of, of-marker}
 
 -- Every number of the list is 0 or 1.
 abbrev pub AreBits : List ℕ → Type 0

@@ -1,11 +1,10 @@
 -- The rocks of packed rows being counted, crossing by crossing: so many are among the bits passed.
-use mathlib.Core.Path.{_≡_, refl, sym, ap, _∙_}
+use mathlib.Core.Path.{_≡_, sym, ap, _∙_}
 use mathlib.Core.List.{List, [], _∷_, _++_}
 use Prim.Native.Nat.{ℕ, _+_, _*_, _<_, _≤_}
 use native.Mathlib.Omega.{arith}
-use lib.ListN.{length, getD, take, length-take}
+use lib.ListN.{getD, take, length-take}
 use lib.Seq.{take-all}
-use Rattle.field.specs.Map.{Sides, On}
 use Rattle.mapfile.specs.Raster.{packedBit, RawRaster}
 use Rattle.mapfile.specs.RasterWorking.{rawBits}
 use Rattle.mapfile.specs.RasterLaws.{raw-raster}

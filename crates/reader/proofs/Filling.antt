@@ -1,12 +1,12 @@
 -- A raster's rocks being entered, crossing by crossing, in either format: after the k-th bit the list holds the markers of the first k bits.
-use mathlib.Core.Path.{_≡_, refl, sym, ap, subst, _∙_}
+use mathlib.Core.Path.{_≡_, refl, sym, ap, _∙_}
 use mathlib.Core.List.{List, [], _∷_, _++_}
-use Prim.Native.Nat.{ℕ, zero, suc, _+_, _*_, _-_, _/_, _%_, _<_, _≤_}
+use Prim.Native.Nat.{ℕ, _+_, _*_, _-_, _/_, _%_, _<_, _≤_}
 use native.Mathlib.Omega.{arith}
 use lib.Arith.{digits-div, digits-mod}
-use lib.ListN.{length, getD, take, drop, length-take, take-append-drop}
+use lib.ListN.{length, getD, take, drop, take-append-drop}
 use lib.Seq.{take-all, length-take-le}
-use Rattle.field.specs.Map.{side, most-markers, Sides}
+use Rattle.field.specs.Map.{most-markers, Sides}
 use Rattle.markers.specs.Promise.{marker, listOf, Parallel}
 use Rattle.markers.specs.Laws.Slices.{listOf-length}
 use Rattle.mapfile.specs.File.{markersOf}
@@ -14,7 +14,7 @@ use Rattle.mapfile.specs.MarkerLaws.{ones, ones-append, ones-snoc}
 use Rattle.mapfile.specs.RockLaws.{AreBits}
 use Rattle.reader.specs.RasterParts.{placeOf, MayStep, Steps, MayEnterBit, slotBit, countBit, EntersBit}
 use Rattle.reader.specs.declared.raster.Place.{Place}
-use Rattle.reader.proofs.Rows.{place-below, rows-end, take-next}
+use Rattle.reader.proofs.Rows.{place-below, take-next}
 use Rattle.reader.proofs.Entering.{Filling, filling-start, filling-bit}
 
 -- There is a slot for each of the bits.

@@ -1,10 +1,10 @@
 -- A P4 raster's rocks being entered: its bits are the packed ones, each read where it stands.
-use mathlib.Core.Path.{_≡_, refl, sym, ap, subst, _∙_}
+use mathlib.Core.Path.{_≡_, sym, ap, _∙_}
 use mathlib.Core.List.{List, _++_}
-use Prim.Native.Nat.{ℕ, _+_, _*_, _<_, _≤_}
+use Prim.Native.Nat.{ℕ, _<_, _≤_}
 use native.Mathlib.Omega.{arith}
 use lib.ListN.{length, getD, drop}
-use Rattle.markers.specs.Promise.{listOf, Parallel}
+use Rattle.markers.specs.Promise.{listOf}
 use Rattle.mapfile.specs.Raster.{packedBit, RawRaster}
 use Rattle.mapfile.specs.RasterWorking.{rawBits}
 use Rattle.mapfile.specs.RasterLaws.{raw-raster, raw-raster-one}

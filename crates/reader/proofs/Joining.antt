@@ -1,5 +1,5 @@
 -- The reader's parts put together: a raster judged, given room and entered is read; a raster read after letters, header and sides is a file read.
-use mathlib.Core.Path.{_≡_, refl, sym, ap, subst, _∙_}
+use mathlib.Core.Path.{_≡_, refl, sym, ap, _∙_}
 use mathlib.Core.List.{List, [], _∷_, _++_}
 use mathlib.Core.Logic.{_⊎_, inl, inr}
 use Prim.Native.Nat.{ℕ, _-_, _<_, _≤_}
@@ -10,7 +10,7 @@ use lib.Seq.{take-all}
 use Rattle.field.specs.declared.Marker.{Marker}
 use Rattle.field.specs.Map.{Sides, most-markers}
 use Rattle.field.specs.Refusals.{no-slot, bad-size, bad-letters, bad-header}
-use Rattle.markers.specs.Promise.{listOf, Parallel}
+use Rattle.markers.specs.Promise.{listOf}
 use Rattle.markers.specs.Laws.Slices.{listOf-length}
 use Rattle.mapfile.specs.Header.{Header}
 use Rattle.mapfile.specs.File.{

@@ -1,15 +1,14 @@
 -- What stands in the list after a map is read: a well-formed list, whose rocks are exactly the file's.
-use mathlib.Core.Path.{_≡_, refl, sym, ap, subst, _∙_}
-use mathlib.Core.List.{List, _++_}
+use mathlib.Core.Path.{_≡_, sym, ap, _∙_}
+use mathlib.Core.List.{List}
 use mathlib.Core.Logic.{_↔_}
-use Prim.Native.Nat.{ℕ, _+_, _*_, _≤_, _<_}
+use Prim.Native.Nat.{ℕ, _+_, _*_, _<_}
 use native.Mathlib.Omega.{arith}
-use lib.ListN.{length, getD, drop, take, List·getD-append, length-append, length-drop}
+use lib.ListN.{length, drop, take, List·getD-append, length-append, length-drop}
 use lib.Seq.{take-at}
 use Rattle.field.specs.declared.Marker.{Marker}
-use Rattle.field.specs.Map.{On, Sides}
 use Rattle.field.specs.Labels.{Rock, blank}
-use Rattle.mapfile.specs.File.{MapFile, FileRock, markersOf}
+use Rattle.mapfile.specs.File.{FileRock, markersOf}
 use Rattle.mapfile.specs.RockLaws.{raster-crossings, marker-id, marker-on, markers-of}
 use Rattle.markers.specs.List.{slot, WellFormed, inUse}
 use Rattle.reader.specs.Promise.{Taken}

@@ -1,11 +1,11 @@
 -- Reading has one outcome: two answers that the promise allows for the same file and list are equal, and so are the lists after them. A file is one
 -- map at most and has one fault at most; with a fault it is no map, and a map's rocks either find a slot each or do not.
-use mathlib.Core.Path.{_≡_, refl, sym, ap, subst, _∙_}
-use mathlib.Core.List.{List, _++_}
+use mathlib.Core.Path.{_≡_, sym, ap, _∙_}
+use mathlib.Core.List.{List}
 use mathlib.Core.Logic.{_⊎_, inl, inr}
-use Prim.Native.Nat.{ℕ, _≤_, _<_}
+use Prim.Native.Nat.{ℕ, _<_}
 use native.Mathlib.Omega.{arith}
-use lib.ListN.{length, drop}
+use lib.ListN.{length}
 use Rattle.field.specs.declared.Marker.{Marker}
 use Rattle.field.specs.Map.{most-markers}
 use Rattle.field.specs.Refusals.{no-slot}

@@ -5,28 +5,19 @@ use Rattle.reader.proofs.Joining.{raster-faulty, raster-over, raster-ma
 use borrow.Author.Needs.{needs}
 use Rattle.reader.proofs.read_raster.Statement.{statement}
 use Rattle.reader.proofs.read_raster.Tie as tie
-use Rattle.reader.proofs.read_raster.Reads as reads
-use Rattle.reader.proofs.read_raster.Lts as lts
-use Rattle.reader.proofs.fill.Reads as fill-reads
-use Rattle.reader.proofs.has_room.Reads as has-room-reads
-use Rattle.reader.proofs.judge.Reads as judge-reads
 
--- src/lib.rt:517:9
 judge-requires : tie.Need-judge-requires
 judge-requires c κs = search needs
 
--- src/lib.rt:519:9
 returns : tie.Need-returns
 returns c =
     let j = c .before .before in
     let s = j .before .before .before .before .before in
     (s .pre .parallel, raster-faulty _ _ _ _ _ _ _ (s .pre) _ (j .judge .ensures) (c .if1 .taken))
 
--- src/lib.rt:521:9
 has-room-requires : tie.Need-has-room-requires
 has-room-requires c κs = search needs
 
--- src/lib.rt:522:9
 returns-2 : tie.Need-returns-2
 returns-2 c =
     let j = c .before .before .before .before in
@@ -35,7 +26,6 @@ returns-2 c =
      raster-over _ _ _ _ _ _ _ (s .pre) _ (j .judge .ensures) (c .before .before .if1 .left)
      (answered-no (not-true _ (c .if2 .taken)) (c .before .has-room .ensures .1)))
 
--- src/lib.rt:524:5
 fill-requires : tie.Need-fill-requires
 fill-requires c κs =
     let e = c .before .before .before in
@@ -43,19 +33,15 @@ fill-requires c κs =
     let s = j .before .before .before .before .before in
     raster-may _ _ _ _ _ _ _ (s .pre) _ (j .judge .ensures) (e .before .before .if1 .left) (e .before .has-room .ensures .0 (not-false _ (e .if2 .left)))
 
--- src/lib.rt:504:1
 same-length : tie.Need-same-length
 same-length c = search needs
 
--- src/lib.rt:504:1
 same-length-2 : tie.Need-same-length-2
 same-length-2 c = search needs
 
--- src/lib.rt:504:1
 same-length-3 : tie.Need-same-length-3
 same-length-3 c = search needs
 
--- src/lib.rt:504:1
 returns-3 : tie.Need-returns-3
 returns-3 c =
     let f = c .before .before .before .before .before .before in

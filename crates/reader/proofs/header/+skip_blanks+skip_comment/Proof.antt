@@ -21,360 +21,193 @@ use Rattle.reader.proofs.Skipping.{
 }
 use borrow.Fn.Kinds.{In}
 use borrow.Fn.PlainCycle.{Measures, is, falls, and}
-use Rattle.reader.proofs.header.skip_blanks.Reads as skip-blanks
-use Rattle.reader.proofs.header.skip_blanks.Kinds as skip-blanks-kinds
-use Rattle.reader.proofs.header.+skip_blanks+skip_comment.Lts-skip_blanks as skip-blanks-lts
-use Rattle.reader.proofs.header.skip_comment.Reads as skip-comment
-use Rattle.reader.proofs.header.skip_comment.Kinds as skip-comment-kinds
-use Rattle.reader.proofs.header.+skip_blanks+skip_comment.Lts-skip_comment as skip-comment-lts
+use Rattle.reader.proofs.header.skip_blanks.Reads as blanks
+use Rattle.reader.proofs.header.skip_blanks.Kinds as blanks-kinds
+use Rattle.reader.proofs.header.+skip_blanks+skip_comment.Lts-skip_blanks as blanks-lts
+use Rattle.reader.proofs.header.skip_comment.Reads as comment
+use Rattle.reader.proofs.header.skip_comment.Kinds as comment-kinds
+use Rattle.reader.proofs.header.+skip_blanks+skip_comment.Lts-skip_comment as comment-lts
 use Rattle.reader.proofs.header.gap_end.Reads as gap-end-reads
 use Rattle.reader.proofs.header.is_blank.Reads as is-blank-reads
 use Rattle.reader.proofs.header.+skip_blanks+skip_comment.{statement}
 use Rattle.reader.proofs.header.+skip_blanks+skip_comment.Tie.{close}
 
-abbrev μ-skip-blanks : Measures 1 skip-blanks-kinds.ps ℕ
-μ-skip-blanks κs a = length (a .0 .now) - a .1 .0
+abbrev μ-blanks : Measures 1 blanks-kinds.ps ℕ
+μ-blanks κs a = length (a .0 .now) - a .1 .0
 
-abbrev μ-skip-comment : Measures 1 skip-comment-kinds.ps ℕ
-μ-skip-comment κs a = length (a .0 .now) - a .1 .0
+abbrev μ-comment : Measures 1 comment-kinds.ps ℕ
+μ-comment κs a = length (a .0 .now) - a .1 .0
 
-abbrev skip-blanks-at : ℕ → In 1 skip-blanks-kinds.ps
-skip-blanks-at t =
-    and 1 skip-blanks-kinds.ps (is 1 skip-blanks-kinds.ps μ-skip-blanks t) skip-blanks.Pre
+abbrev blanks-at : ℕ → In 1 blanks-kinds.ps
+blanks-at t =
+    and 1 blanks-kinds.ps (is 1 blanks-kinds.ps μ-blanks t) blanks.Pre
 
-abbrev skip-blanks-below : ℕ → In 1 skip-blanks-kinds.ps
-skip-blanks-below t =
-    and 1 skip-blanks-kinds.ps (falls 1 skip-blanks-kinds.ps _<_ μ-skip-blanks t) skip-blanks.Pre
+abbrev blanks-below : ℕ → In 1 blanks-kinds.ps
+blanks-below t =
+    and 1 blanks-kinds.ps (falls 1 blanks-kinds.ps _<_ μ-blanks t) blanks.Pre
 
-abbrev skip-comment-at : ℕ → In 1 skip-comment-kinds.ps
-skip-comment-at t =
-    and 1 skip-comment-kinds.ps (is 1 skip-comment-kinds.ps μ-skip-comment t) skip-comment.Pre
+abbrev comment-at : ℕ → In 1 comment-kinds.ps
+comment-at t =
+    and 1 comment-kinds.ps (is 1 comment-kinds.ps μ-comment t) comment.Pre
 
-abbrev skip-comment-below : ℕ → In 1 skip-comment-kinds.ps
-skip-comment-below t =
+abbrev comment-below : ℕ → In 1 comment-kinds.ps
+comment-below t =
     and
     1
-    skip-comment-kinds.ps
-    (falls 1 skip-comment-kinds.ps _<_ μ-skip-comment t)
-    skip-comment.Pre
+    comment-kinds.ps
+    (falls 1 comment-kinds.ps _<_ μ-comment t)
+    comment.Pre
 
-abbrev skip-blanks-Inv-loop : skip-blanks-lts.InvT-loop
-skip-blanks-Inv-loop src at seen i₀ any₀ i any = SkippingBlanks src at seen i any
+-- What each knows of its callees.
+abbrev blanks-calls : ℕ → blanks-lts.Claims
+blanks-calls t = (comment-below t, comment.Post, is-blank-reads.Asked, is-blank-reads.Learnt, gap-end-reads.Asked, gap-end-reads.Learnt)
 
-abbrev skip-blanks-μ-loop : skip-blanks-lts.MeasureT-loop
-skip-blanks-μ-loop src at seen i₀ any₀ i any = length src - i
+abbrev comment-calls : ℕ → comment-lts.Claims
+comment-calls t = (blanks-below t, blanks.Post)
 
--- src/lib.rt:109:5
-skip-blanks-loop-holds : (t : ℕ) → skip-blanks-lts.Need-loop-holds (
-  skip-comment-below t,
-  skip-comment.Post,
-  is-blank-reads.Asked,
-  is-blank-reads.Learnt,
-  gap-end-reads.Asked,
-  gap-end-reads.Learnt,
-) (skip-blanks-at t) skip-blanks.Post skip-blanks-Inv-loop skip-blanks-μ-loop
-skip-blanks-loop-holds t c = blanks-start _ _ _ (c .before .pre .1)
+abbrev blanks-inv : blanks-lts.InvT-loop
+blanks-inv src at seen i₀ any₀ i any = SkippingBlanks src at seen i any
 
--- src/lib.rt:110:12
-skip-blanks-shared-slice-read-if1 : (t : ℕ) → skip-blanks-lts.Need-shared-slice-read-if1 (
-  skip-comment-below t,
-  skip-comment.Post,
-  is-blank-reads.Asked,
-  is-blank-reads.Learnt,
-  gap-end-reads.Asked,
-  gap-end-reads.Learnt,
-) (skip-blanks-at t) skip-blanks.Post skip-blanks-Inv-loop skip-blanks-μ-loop
-skip-blanks-shared-slice-read-if1 t c = omega arith
+abbrev blanks-left : blanks-lts.MeasureT-loop
+blanks-left src at seen i₀ any₀ i any = length src - i
 
--- src/lib.rt:111:38
-skip-blanks-add-skip-comment : (t : ℕ) → skip-blanks-lts.Need-add-skip-comment (
-  skip-comment-below t,
-  skip-comment.Post,
-  is-blank-reads.Asked,
-  is-blank-reads.Learnt,
-  gap-end-reads.Asked,
-  gap-end-reads.Learnt,
-) (skip-blanks-at t) skip-blanks.Post skip-blanks-Inv-loop skip-blanks-μ-loop
-skip-blanks-add-skip-comment t c = omega arith
+abbrev comment-inv : comment-lts.InvT-loop
+comment-inv src at seen i₀ i = SkippingComment src at seen i
 
--- src/lib.rt:111:13
-skip-blanks-skip-comment-requires : (t : ℕ) → skip-blanks-lts.Need-skip-comment-requires (
-  skip-comment-below t,
-  skip-comment.Post,
-  is-blank-reads.Asked,
-  is-blank-reads.Learnt,
-  gap-end-reads.Asked,
-  gap-end-reads.Learnt,
-) (skip-blanks-at t) skip-blanks.Post skip-blanks-Inv-loop skip-blanks-μ-loop
-skip-blanks-skip-comment-requires t c κs = omega arith
+abbrev comment-left : comment-lts.MeasureT-loop
+comment-left src at seen i₀ i = length src - i
 
--- src/lib.rt:111:13
-skip-blanks-returns : (t : ℕ) → skip-blanks-lts.Need-returns (
-  skip-comment-below t,
-  skip-comment.Post,
-  is-blank-reads.Asked,
-  is-blank-reads.Learnt,
-  gap-end-reads.Asked,
-  gap-end-reads.Learnt,
-) (skip-blanks-at t) skip-blanks.Post skip-blanks-Inv-loop skip-blanks-μ-loop
-skip-blanks-returns t c = 
-    let l = c .before .before .before .before in
-    blanks-hash (l .loop .inv) (c .skip-comment .result) (c .before .before .before .loop-test .taken) (c .before .if1 .taken) (c .skip-comment .ensures)
+module _ (t : ℕ) where
+  blanks-loop-holds : blanks-lts.Need-loop-holds (blanks-calls t) (blanks-at t) blanks.Post blanks-inv blanks-left
+  blanks-loop-holds c = blanks-start _ _ _ (c .before .pre .1)
 
--- src/lib.rt:113:22
-skip-blanks-shared-slice-read-is-blank : (t : ℕ) → skip-blanks-lts.Need-shared-slice-read-is-blank (
-  skip-comment-below t,
-  skip-comment.Post,
-  is-blank-reads.Asked,
-  is-blank-reads.Learnt,
-  gap-end-reads.Asked,
-  gap-end-reads.Learnt,
-) (skip-blanks-at t) skip-blanks.Post skip-blanks-Inv-loop skip-blanks-μ-loop
-skip-blanks-shared-slice-read-is-blank t c = omega arith
+  blanks-shared-slice-read-if1 : blanks-lts.Need-shared-slice-read-if1 (blanks-calls t) (blanks-at t) blanks.Post blanks-inv blanks-left
+  blanks-shared-slice-read-if1 c = omega arith
 
--- src/lib.rt:113:13
-skip-blanks-is-blank-requires : (t : ℕ) → skip-blanks-lts.Need-is-blank-requires (
-  skip-comment-below t,
-  skip-comment.Post,
-  is-blank-reads.Asked,
-  is-blank-reads.Learnt,
-  gap-end-reads.Asked,
-  gap-end-reads.Learnt,
-) (skip-blanks-at t) skip-blanks.Post skip-blanks-Inv-loop skip-blanks-μ-loop
-skip-blanks-is-blank-requires t c κs = tt
+  blanks-add-skip-comment : blanks-lts.Need-add-skip-comment (blanks-calls t) (blanks-at t) blanks.Post blanks-inv blanks-left
+  blanks-add-skip-comment c = omega arith
 
--- src/lib.rt:114:13
-skip-blanks-gap-end-requires : (t : ℕ) → skip-blanks-lts.Need-gap-end-requires (
-  skip-comment-below t,
-  skip-comment.Post,
-  is-blank-reads.Asked,
-  is-blank-reads.Learnt,
-  gap-end-reads.Asked,
-  gap-end-reads.Learnt,
-) (skip-blanks-at t) skip-blanks.Post skip-blanks-Inv-loop skip-blanks-μ-loop
-skip-blanks-gap-end-requires t c κs = tt
+  blanks-skip-comment-requires : blanks-lts.Need-skip-comment-requires (blanks-calls t) (blanks-at t) blanks.Post blanks-inv blanks-left
+  blanks-skip-comment-requires c κs = omega arith
 
--- src/lib.rt:114:13
-skip-blanks-returns-2 : (t : ℕ) → skip-blanks-lts.Need-returns-2 (
-  skip-comment-below t,
-  skip-comment.Post,
-  is-blank-reads.Asked,
-  is-blank-reads.Learnt,
-  gap-end-reads.Asked,
-  gap-end-reads.Learnt,
-) (skip-blanks-at t) skip-blanks.Post skip-blanks-Inv-loop skip-blanks-μ-loop
-skip-blanks-returns-2 t c = 
-    let i = c .before .before .before .before .before .before in
-    let b = c .before .before in
-    blanks-stop (i .before .loop .inv) (c .gap-end .result) (i .loop-test .taken) (answered-no (not-true _ (c .before .if2 .taken)) (b .is-blank .ensures .1)) (b .before .before .if1 .left) (c .gap-end .ensures)
+  blanks-returns : blanks-lts.Need-returns (blanks-calls t) (blanks-at t) blanks.Post blanks-inv blanks-left
+  blanks-returns c =
+      let l = c .before .before .before .before in
+      blanks-hash (l .loop .inv) (c .skip-comment .result) (c .before .before .before .loop-test .taken) (c .before .if1 .taken) (c .skip-comment .ensures)
 
--- src/lib.rt:117:9
-skip-blanks-add-i : (t : ℕ) → skip-blanks-lts.Need-add-i (
-  skip-comment-below t,
-  skip-comment.Post,
-  is-blank-reads.Asked,
-  is-blank-reads.Learnt,
-  gap-end-reads.Asked,
-  gap-end-reads.Learnt,
-) (skip-blanks-at t) skip-blanks.Post skip-blanks-Inv-loop skip-blanks-μ-loop
-skip-blanks-add-i t c = omega arith
+  blanks-shared-slice-read-is-blank : blanks-lts.Need-shared-slice-read-is-blank (blanks-calls t) (blanks-at t) blanks.Post blanks-inv blanks-left
+  blanks-shared-slice-read-is-blank c = omega arith
 
--- src/lib.rt:109:5
-skip-blanks-loop-less : (t : ℕ) → skip-blanks-lts.Need-loop-less (
-  skip-comment-below t,
-  skip-comment.Post,
-  is-blank-reads.Asked,
-  is-blank-reads.Learnt,
-  gap-end-reads.Asked,
-  gap-end-reads.Learnt,
-) (skip-blanks-at t) skip-blanks.Post skip-blanks-Inv-loop skip-blanks-μ-loop
-skip-blanks-loop-less t c = omega arith
+  blanks-is-blank-requires : blanks-lts.Need-is-blank-requires (blanks-calls t) (blanks-at t) blanks.Post blanks-inv blanks-left
+  blanks-is-blank-requires c κs = tt
 
--- src/lib.rt:109:5
-skip-blanks-loop-again : (t : ℕ) → skip-blanks-lts.Need-loop-again (
-  skip-comment-below t,
-  skip-comment.Post,
-  is-blank-reads.Asked,
-  is-blank-reads.Learnt,
-  gap-end-reads.Asked,
-  gap-end-reads.Learnt,
-) (skip-blanks-at t) skip-blanks.Post skip-blanks-Inv-loop skip-blanks-μ-loop
-skip-blanks-loop-again t c = 
-    let i = c .before .before .before .before .before in
-    blanks-more (i .before .loop .inv) (i .loop-test .taken) (c .before .is-blank .ensures .0 (not-false _ (c .if2 .left)))
+  blanks-gap-end-requires : blanks-lts.Need-gap-end-requires (blanks-calls t) (blanks-at t) blanks.Post blanks-inv blanks-left
+  blanks-gap-end-requires c κs = tt
 
--- src/lib.rt:119:5
-skip-blanks-gap-end-requires-2 : (t : ℕ) → skip-blanks-lts.Need-gap-end-requires-2 (
-  skip-comment-below t,
-  skip-comment.Post,
-  is-blank-reads.Asked,
-  is-blank-reads.Learnt,
-  gap-end-reads.Asked,
-  gap-end-reads.Learnt,
-) (skip-blanks-at t) skip-blanks.Post skip-blanks-Inv-loop skip-blanks-μ-loop
-skip-blanks-gap-end-requires-2 t c κs = tt
+  blanks-returns-2 : blanks-lts.Need-returns-2 (blanks-calls t) (blanks-at t) blanks.Post blanks-inv blanks-left
+  blanks-returns-2 c =
+      let i = c .before .before .before .before .before .before in
+      let b = c .before .before in
+      blanks-stop (i .before .loop .inv) (c .gap-end .result) (i .loop-test .taken) (answered-no (not-true _ (c .before .if2 .taken)) (b .is-blank .ensures .1)) (b .before .before .if1 .left) (c .gap-end .ensures)
 
--- src/lib.rt:103:1
-skip-blanks-returns-3 : (t : ℕ) → skip-blanks-lts.Need-returns-3 (
-  skip-comment-below t,
-  skip-comment.Post,
-  is-blank-reads.Asked,
-  is-blank-reads.Learnt,
-  gap-end-reads.Asked,
-  gap-end-reads.Learnt,
-) (skip-blanks-at t) skip-blanks.Post skip-blanks-Inv-loop skip-blanks-μ-loop
-skip-blanks-returns-3 t c = blanks-end (c .before .before .loop .inv) (c .gap-end2 .result) (c .before .loop-test .left) (c .gap-end2 .ensures)
+  blanks-add-i : blanks-lts.Need-add-i (blanks-calls t) (blanks-at t) blanks.Post blanks-inv blanks-left
+  blanks-add-i c = omega arith
 
-abbrev skip-comment-Inv-loop : skip-comment-lts.InvT-loop
-skip-comment-Inv-loop src at seen i₀ i = SkippingComment src at seen i
+  blanks-loop-less : blanks-lts.Need-loop-less (blanks-calls t) (blanks-at t) blanks.Post blanks-inv blanks-left
+  blanks-loop-less c = omega arith
 
-abbrev skip-comment-μ-loop : skip-comment-lts.MeasureT-loop
-skip-comment-μ-loop src at seen i₀ i = length src - i
+  blanks-loop-again : blanks-lts.Need-loop-again (blanks-calls t) (blanks-at t) blanks.Post blanks-inv blanks-left
+  blanks-loop-again c =
+      let i = c .before .before .before .before .before in
+      blanks-more (i .before .loop .inv) (i .loop-test .taken) (c .before .is-blank .ensures .0 (not-false _ (c .if2 .left)))
 
--- src/lib.rt:128:5
-skip-comment-loop-holds : (t : ℕ) → skip-comment-lts.Need-loop-holds (
-  skip-blanks-below t,
-  skip-blanks.Post,
-) (skip-comment-at t) skip-comment.Post skip-comment-Inv-loop skip-comment-μ-loop
-skip-comment-loop-holds t c = comment-start _ _ _ (c .before .pre .1)
+  blanks-gap-end-requires-2 : blanks-lts.Need-gap-end-requires-2 (blanks-calls t) (blanks-at t) blanks.Post blanks-inv blanks-left
+  blanks-gap-end-requires-2 c κs = tt
 
--- src/lib.rt:129:12
-skip-comment-shared-slice-read-if1 : (t : ℕ) → skip-comment-lts.Need-shared-slice-read-if1 (
-  skip-blanks-below t,
-  skip-blanks.Post,
-) (skip-comment-at t) skip-comment.Post skip-comment-Inv-loop skip-comment-μ-loop
-skip-comment-shared-slice-read-if1 t c = omega arith
+  blanks-returns-3 : blanks-lts.Need-returns-3 (blanks-calls t) (blanks-at t) blanks.Post blanks-inv blanks-left
+  blanks-returns-3 c = blanks-end (c .before .before .loop .inv) (c .gap-end2 .result) (c .before .loop-test .left) (c .gap-end2 .ensures)
 
--- src/lib.rt:130:37
-skip-comment-add-skip-blanks : (t : ℕ) → skip-comment-lts.Need-add-skip-blanks (
-  skip-blanks-below t,
-  skip-blanks.Post,
-) (skip-comment-at t) skip-comment.Post skip-comment-Inv-loop skip-comment-μ-loop
-skip-comment-add-skip-blanks t c = omega arith
+  comment-loop-holds : comment-lts.Need-loop-holds (comment-calls t) (comment-at t) comment.Post comment-inv comment-left
+  comment-loop-holds c = comment-start _ _ _ (c .before .pre .1)
 
--- src/lib.rt:130:13
-skip-comment-skip-blanks-requires : (t : ℕ) → skip-comment-lts.Need-skip-blanks-requires (
-  skip-blanks-below t,
-  skip-blanks.Post,
-) (skip-comment-at t) skip-comment.Post skip-comment-Inv-loop skip-comment-μ-loop
-skip-comment-skip-blanks-requires t c κs = omega arith
+  comment-shared-slice-read-if1 : comment-lts.Need-shared-slice-read-if1 (comment-calls t) (comment-at t) comment.Post comment-inv comment-left
+  comment-shared-slice-read-if1 c = omega arith
 
--- src/lib.rt:130:13
-skip-comment-returns : (t : ℕ) → skip-comment-lts.Need-returns (
-  skip-blanks-below t,
-  skip-blanks.Post,
-) (skip-comment-at t) skip-comment.Post skip-comment-Inv-loop skip-comment-μ-loop
-skip-comment-returns t c = 
-    let l = c .before .before .before .before in
-    comment-end (l .loop .inv) (c .skip-blanks .result) (c .before .before .before .loop-test .taken) (at-return (c .before .if1 .taken)) (c .skip-blanks .ensures)
+  comment-add-skip-blanks : comment-lts.Need-add-skip-blanks (comment-calls t) (comment-at t) comment.Post comment-inv comment-left
+  comment-add-skip-blanks c = omega arith
 
--- src/lib.rt:132:12
-skip-comment-shared-slice-read-if2 : (t : ℕ) → skip-comment-lts.Need-shared-slice-read-if2 (
-  skip-blanks-below t,
-  skip-blanks.Post,
-) (skip-comment-at t) skip-comment.Post skip-comment-Inv-loop skip-comment-μ-loop
-skip-comment-shared-slice-read-if2 t c = omega arith
+  comment-skip-blanks-requires : comment-lts.Need-skip-blanks-requires (comment-calls t) (comment-at t) comment.Post comment-inv comment-left
+  comment-skip-blanks-requires c κs = omega arith
 
--- src/lib.rt:133:37
-skip-comment-add-skip-blanks-2 : (t : ℕ) → skip-comment-lts.Need-add-skip-blanks-2 (
-  skip-blanks-below t,
-  skip-blanks.Post,
-) (skip-comment-at t) skip-comment.Post skip-comment-Inv-loop skip-comment-μ-loop
-skip-comment-add-skip-blanks-2 t c = omega arith
+  comment-returns : comment-lts.Need-returns (comment-calls t) (comment-at t) comment.Post comment-inv comment-left
+  comment-returns c =
+      let l = c .before .before .before .before in
+      comment-end (l .loop .inv) (c .skip-blanks .result) (c .before .before .before .loop-test .taken) (at-return (c .before .if1 .taken)) (c .skip-blanks .ensures)
 
--- src/lib.rt:133:13
-skip-comment-skip-blanks-requires-2 : (t : ℕ) → skip-comment-lts.Need-skip-blanks-requires-2 (
-  skip-blanks-below t,
-  skip-blanks.Post,
-) (skip-comment-at t) skip-comment.Post skip-comment-Inv-loop skip-comment-μ-loop
-skip-comment-skip-blanks-requires-2 t c κs = omega arith
+  comment-shared-slice-read-if2 : comment-lts.Need-shared-slice-read-if2 (comment-calls t) (comment-at t) comment.Post comment-inv comment-left
+  comment-shared-slice-read-if2 c = omega arith
 
--- src/lib.rt:133:13
-skip-comment-returns-2 : (t : ℕ) → skip-comment-lts.Need-returns-2 (
-  skip-blanks-below t,
-  skip-blanks.Post,
-) (skip-comment-at t) skip-comment.Post skip-comment-Inv-loop skip-comment-μ-loop
-skip-comment-returns-2 t c = 
-    let i = c .before .before .before .before .before in
-    comment-end (i .before .loop .inv) (c .skip-blanks2 .result) (i .loop-test .taken) (at-feed (c .before .if2 .taken)) (c .skip-blanks2 .ensures)
+  comment-add-skip-blanks-2 : comment-lts.Need-add-skip-blanks-2 (comment-calls t) (comment-at t) comment.Post comment-inv comment-left
+  comment-add-skip-blanks-2 c = omega arith
 
--- src/lib.rt:135:9
-skip-comment-add-i :
-    (t : ℕ) →
-    skip-comment-lts.Need-add-i
-    (skip-blanks-below t, skip-blanks.Post)
-    (skip-comment-at t)
-    skip-comment.Post
-    skip-comment-Inv-loop
-    skip-comment-μ-loop
-skip-comment-add-i t c = omega arith
+  comment-skip-blanks-requires-2 : comment-lts.Need-skip-blanks-requires-2 (comment-calls t) (comment-at t) comment.Post comment-inv comment-left
+  comment-skip-blanks-requires-2 c κs = omega arith
 
--- src/lib.rt:128:5
-skip-comment-loop-less : (t : ℕ) → skip-comment-lts.Need-loop-less (
-  skip-blanks-below t,
-  skip-blanks.Post,
-) (skip-comment-at t) skip-comment.Post skip-comment-Inv-loop skip-comment-μ-loop
-skip-comment-loop-less t c = omega arith
+  comment-returns-2 : comment-lts.Need-returns-2 (comment-calls t) (comment-at t) comment.Post comment-inv comment-left
+  comment-returns-2 c =
+      let i = c .before .before .before .before .before in
+      comment-end (i .before .loop .inv) (c .skip-blanks2 .result) (i .loop-test .taken) (at-feed (c .before .if2 .taken)) (c .skip-blanks2 .ensures)
 
--- src/lib.rt:128:5
-skip-comment-loop-again : (t : ℕ) → skip-comment-lts.Need-loop-again (
-  skip-blanks-below t,
-  skip-blanks.Post,
-) (skip-comment-at t) skip-comment.Post skip-comment-Inv-loop skip-comment-μ-loop
-skip-comment-loop-again t c = 
-    let i = c .before .before .before .before in
-    comment-more (i .before .loop .inv) (i .loop-test .taken) (c .before .before .if1 .left) (c .if2 .left)
+  comment-add-i : comment-lts.Need-add-i (comment-calls t) (comment-at t) comment.Post comment-inv comment-left
+  comment-add-i c = omega arith
 
--- src/lib.rt:123:1
-skip-comment-returns-3 : (t : ℕ) → skip-comment-lts.Need-returns-3 (
-  skip-blanks-below t,
-  skip-blanks.Post,
-) (skip-comment-at t) skip-comment.Post skip-comment-Inv-loop skip-comment-μ-loop
-skip-comment-returns-3 t c = comment-open (c .before .loop .inv) (c .loop-test .left)
+  comment-loop-less : comment-lts.Need-loop-less (comment-calls t) (comment-at t) comment.Post comment-inv comment-left
+  comment-loop-less c = omega arith
+
+  comment-loop-again : comment-lts.Need-loop-again (comment-calls t) (comment-at t) comment.Post comment-inv comment-left
+  comment-loop-again c =
+      let i = c .before .before .before .before in
+      comment-more (i .before .loop .inv) (i .loop-test .taken) (c .before .before .if1 .left) (c .if2 .left)
+
+  comment-returns-3 : comment-lts.Need-returns-3 (comment-calls t) (comment-at t) comment.Post comment-inv comment-left
+  comment-returns-3 c = comment-open (c .before .loop .inv) (c .loop-test .left)
 
 pub +skip-blanks+skip-comment-spec : {M : Type 1} → statement M
-+skip-blanks+skip-comment-spec = close μ-skip-blanks μ-skip-comment (λ t. skip-blanks-lts.spec (
-  skip-comment-below t,
-  skip-comment.Post,
-  is-blank-reads.Asked,
-  is-blank-reads.Learnt,
-  gap-end-reads.Asked,
-  gap-end-reads.Learnt,
-)
-    (skip-blanks-at t)
-    skip-blanks.Post
-    skip-blanks-Inv-loop
-    skip-blanks-μ-loop
-    (skip-blanks-loop-holds t)
-    (skip-blanks-shared-slice-read-if1 t)
-    (skip-blanks-add-skip-comment t)
-    (skip-blanks-skip-comment-requires t)
-    (skip-blanks-returns t)
-    (skip-blanks-shared-slice-read-is-blank t)
-    (skip-blanks-is-blank-requires t)
-    (skip-blanks-gap-end-requires t)
-    (skip-blanks-returns-2 t)
-    (skip-blanks-add-i t)
-    (skip-blanks-loop-less t)
-    (skip-blanks-loop-again t)
-    (skip-blanks-gap-end-requires-2 t)
-    (skip-blanks-returns-3 t))
-    λ t. skip-comment-lts.spec
-    (skip-blanks-below t, skip-blanks.Post)
-    (skip-comment-at t)
-    skip-comment.Post
-    skip-comment-Inv-loop
-    skip-comment-μ-loop
-    (skip-comment-loop-holds t)
-    (skip-comment-shared-slice-read-if1 t)
-    (skip-comment-add-skip-blanks t)
-    (skip-comment-skip-blanks-requires t)
-    (skip-comment-returns t)
-    (skip-comment-shared-slice-read-if2 t)
-    (skip-comment-add-skip-blanks-2 t)
-    (skip-comment-skip-blanks-requires-2 t)
-    (skip-comment-returns-2 t)
-    (skip-comment-add-i t)
-    (skip-comment-loop-less t)
-    (skip-comment-loop-again t)
-    (skip-comment-returns-3 t)
++skip-blanks+skip-comment-spec = close μ-blanks μ-comment (λ t. blanks-lts.spec (blanks-calls t)
+    (blanks-at t)
+    blanks.Post
+    blanks-inv
+    blanks-left
+    (blanks-loop-holds t)
+    (blanks-shared-slice-read-if1 t)
+    (blanks-add-skip-comment t)
+    (blanks-skip-comment-requires t)
+    (blanks-returns t)
+    (blanks-shared-slice-read-is-blank t)
+    (blanks-is-blank-requires t)
+    (blanks-gap-end-requires t)
+    (blanks-returns-2 t)
+    (blanks-add-i t)
+    (blanks-loop-less t)
+    (blanks-loop-again t)
+    (blanks-gap-end-requires-2 t)
+    (blanks-returns-3 t))
+    λ t. comment-lts.spec
+    (comment-calls t)
+    (comment-at t)
+    comment.Post
+    comment-inv
+    comment-left
+    (comment-loop-holds t)
+    (comment-shared-slice-read-if1 t)
+    (comment-add-skip-blanks t)
+    (comment-skip-blanks-requires t)
+    (comment-returns t)
+    (comment-shared-slice-read-if2 t)
+    (comment-add-skip-blanks-2 t)
+    (comment-skip-blanks-requires-2 t)
+    (comment-returns-2 t)
+    (comment-add-i t)
+    (comment-loop-less t)
+    (comment-loop-again t)
+    (comment-returns-3 t)

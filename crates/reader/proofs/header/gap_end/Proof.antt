@@ -2,14 +2,10 @@
 use borrow.Author.Needs.{needs}
 use Rattle.reader.proofs.header.gap_end.Statement.{statement}
 use Rattle.reader.proofs.header.gap_end.Tie as tie
-use Rattle.reader.proofs.header.gap_end.Reads as reads
-use Rattle.reader.proofs.header.gap_end.Lts as lts
 
--- src/lib.rt:97:9
 returns : tie.Need-returns
 returns c = rw (c .if1 .taken)
 
--- src/lib.rt:93:1
 returns-2 : tie.Need-returns-2
 returns-2 c = search needs
 

@@ -12,63 +12,47 @@ use Rattle.reader.proofs.Heading.{
 use borrow.Author.Needs.{needs}
 use Rattle.reader.proofs.header.header.Statement.{statement}
 use Rattle.reader.proofs.header.header.Tie as tie
-use Rattle.reader.proofs.header.header.Reads as reads
-use Rattle.reader.proofs.header.header.Lts as lts
-use Rattle.reader.proofs.header.next_number.Reads as next-number-reads
-use Rattle.reader.proofs.header.one_blank.Reads as one-blank-reads
 
--- src/lib.rt:227:9
 next-number-requires : tie.Need-next-number-requires
 next-number-requires c κs = search needs
 
--- src/lib.rt:228:24
 enum-known-width : tie.Need-enum-known-width
 enum-known-width c = search needs
 
--- src/lib.rt:229:9
 enum-told : tie.Need-enum-told
 enum-told c = search needs
 
--- src/lib.rt:229:9
 returns : tie.Need-returns
 returns c = no-width _ (numeral-missing _ _ _ (c .before .before .next-number .ensures) (c .enum-told .given .1))
 
--- src/lib.rt:231:9
 next-number-requires-2 : tie.Need-next-number-requires-2
 next-number-requires-2 c κs =
     let g = c .before in
     numeral-value _ _ _ _ _ (g .before .before .next-number .ensures) (g .width .given .1) .0
 
--- src/lib.rt:232:24
 enum-known-height : tie.Need-enum-known-height
 enum-known-height c = search needs
 
--- src/lib.rt:233:9
 enum-told-2 : tie.Need-enum-told-2
 enum-told-2 c = search needs
 
--- src/lib.rt:233:9
 returns-2 : tie.Need-returns-2
 returns-2 c =
     let g = c .before .before .before .before in
     no-height _ _ _ (numeral-value _ _ _ _ _ (g .before .before .next-number .ensures) (g .width .given .1) .1)
     (numeral-missing _ _ _ (c .before .before .next-number2 .ensures) (c .enum-told2 .given .1))
 
--- src/lib.rt:235:9
 one-blank-requires : tie.Need-one-blank-requires
 one-blank-requires c κs =
     let k = c .before in
     numeral-value _ _ _ _ _ (k .before .before .next-number2 .ensures) (k .height .given .1) .0
 
--- src/lib.rt:237:19
 enum-known-last : tie.Need-enum-known-last
 enum-known-last c = search needs
 
--- src/lib.rt:238:25
 enum-told-3 : tie.Need-enum-told-3
 enum-told-3 c = search needs
 
--- src/lib.rt:223:1
 returns-3 : tie.Need-returns-3
 returns-3 c =
     let j = c .before in
@@ -80,7 +64,6 @@ returns-3 c =
      (numeral-value _ _ _ _ _ (k .before .before .next-number2 .ensures) (k .height .given .1) .1)
      (e .1))
 
--- src/lib.rt:223:1
 returns-4 : tie.Need-returns-4
 returns-4 c =
     let k = c .before .before .before .before in

@@ -5,8 +5,6 @@ use Rattle.mapfile.specs.Header.{Blank, space, tab, return, feed}
 use Rattle.reader.proofs.Answers.{answer-yes, answer-no}
 use Rattle.reader.proofs.header.is_blank.Statement.{statement}
 use Rattle.reader.proofs.header.is_blank.Tie as tie
-use Rattle.reader.proofs.header.is_blank.Reads as reads
-use Rattle.reader.proofs.header.is_blank.Lts as lts
 
 no-blank : {b : ℕ} → ¬ (b ≡ 32) → ¬ (b ≡ 9) → ¬ (b ≡ 13) → ¬ (b ≡ 10) → ¬ Blank b
 no-blank p q r s (space e) = p e
@@ -14,23 +12,18 @@ no-blank p q r s (tab e) = q e
 no-blank p q r s (return e) = r e
 no-blank p q r s (feed e) = s e
 
--- src/lib.rt:90:9
 returns : tie.Need-returns
 returns c = answer-yes (space (c .if1 .taken))
 
--- src/lib.rt:93:9
 returns-2 : tie.Need-returns-2
 returns-2 c = answer-yes (tab (c .if2 .taken))
 
--- src/lib.rt:96:9
 returns-3 : tie.Need-returns-3
 returns-3 c = answer-yes (return (c .if3 .taken))
 
--- src/lib.rt:99:9
 returns-4 : tie.Need-returns-4
 returns-4 c = answer-yes (feed (c .if4 .taken))
 
--- src/lib.rt:86:1
 returns-5 : tie.Need-returns-5
 returns-5 c = answer-no (no-blank (c .before .before .before .if1 .left) (c .before .before .if2 .left) (c .before .if3 .left) (c .if4 .left))
 

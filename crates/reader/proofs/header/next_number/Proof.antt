@@ -3,36 +3,26 @@ use Rattle.reader.proofs.Heading.{gap-ends, gap-missing, next-some, nex
 use borrow.Author.Needs.{needs}
 use Rattle.reader.proofs.header.next_number.Statement.{statement}
 use Rattle.reader.proofs.header.next_number.Tie as tie
-use Rattle.reader.proofs.header.next_number.Reads as reads
-use Rattle.reader.proofs.header.next_number.Lts as lts
-use Rattle.reader.proofs.header.number.Reads as number-reads
-use Rattle.reader.proofs.header.skip_blanks.Reads as skip-blanks-reads
 
--- src/lib.rt:201:9
 skip-blanks-requires : tie.Need-skip-blanks-requires
 skip-blanks-requires c κs = search needs
 
--- src/lib.rt:203:19
 enum-known-gap : tie.Need-enum-known-gap
 enum-known-gap c = search needs
 
--- src/lib.rt:203:25
 number-requires : tie.Need-number-requires
 number-requires c κs =
     let g = c .before in
     gap-ends _ _ _ _ (g .before .before .skip-blanks .ensures) (g .gap .given .1) .0
 
--- src/lib.rt:204:25
 enum-told : tie.Need-enum-told
 enum-told c = search needs
 
--- src/lib.rt:197:1
 returns : tie.Need-returns
 returns c =
     let g = c .before .before in
     rw (next-some _ _ (gap-ends _ _ _ _ (g .before .before .skip-blanks .ensures) (g .gap .given .1) .1)) (c .number .ensures)
 
--- src/lib.rt:197:1
 returns-2 : tie.Need-returns-2
 returns-2 c = next-none _ (gap-missing _ _ _ (c .before .before .skip-blanks .ensures) (c .enum-told .given .1))
 

@@ -16,10 +16,6 @@ use Rattle.reader.proofs.Numbering.{
 }
 use Rattle.reader.proofs.header.number.Statement.{statement}
 use Rattle.reader.proofs.header.number.Tie as tie
-use Rattle.reader.proofs.header.number.Reads as reads
-use Rattle.reader.proofs.header.number.Lts as lts
-use Rattle.reader.proofs.header.is_digit.Reads as is-digit-reads
-use Rattle.reader.proofs.header.numeral_end.Reads as numeral-end-reads
 
 abbrev Inv-loop : tie.InvT-loop
 Inv-loop src at v₀ i₀ v i = Numbering src at v i
@@ -27,27 +23,21 @@ Inv-loop src at v₀ i₀ v i = Numbering src at v i
 abbrev μ-loop : tie.MeasureT-loop
 μ-loop src at v₀ i₀ v i = length src - i
 
--- src/lib.rt:182:5
 loop-holds : tie.Need-loop-holds Inv-loop μ-loop
 loop-holds c = numbering-start _ _ (c .before .pre)
 
--- src/lib.rt:183:17
 shared-slice-read-b : tie.Need-shared-slice-read-b Inv-loop μ-loop
 shared-slice-read-b c = omega arith
 
--- src/lib.rt:184:13
 is-digit-requires : tie.Need-is-digit-requires Inv-loop μ-loop
 is-digit-requires c κs = tt
 
--- src/lib.rt:185:32
 sub-numeral-end : tie.Need-sub-numeral-end Inv-loop μ-loop
 sub-numeral-end c = omega arith
 
--- src/lib.rt:185:13
 numeral-end-requires : tie.Need-numeral-end-requires Inv-loop μ-loop
 numeral-end-requires c κs = tt
 
--- src/lib.rt:185:13
 returns : tie.Need-returns Inv-loop μ-loop
 returns c =
     let i = c .before .before .before .before in
@@ -62,55 +52,43 @@ digit-here : (c : tie.Else2 Inv-loop μ-loop)
     → Digit (getD (c .before .before .before .before .before .before .before .args .src .now) (c .before .before .before .before .before .loop .i) 0)
 digit-here c = c .before .before .is-digit .ensures .0 (not-false _ (c .before .if1 .left))
 
--- src/lib.rt:187:12
 sub-if2 : tie.Need-sub-if2 Inv-loop μ-loop
 sub-if2 c = omega arith
 
--- src/lib.rt:188:13
 returns-2 : tie.Need-returns-2 Inv-loop μ-loop
 returns-2 c =
     let i = c .before .before .before .before in
     numbering-many (i .before .loop .inv) (i .loop-test .taken) (digit-there c) (c .if2 .taken)
 
--- src/lib.rt:190:13
 mul-v : tie.Need-mul-v Inv-loop μ-loop
 mul-v c = omega (arith, value-small (c .before .before .before .before .before .loop .inv))
 
--- src/lib.rt:190:23
 sub-v : tie.Need-sub-v Inv-loop μ-loop
 sub-v c = omega (arith, digit-here c .from-zero)
 
--- src/lib.rt:190:22
 cast-v : tie.Need-cast-v Inv-loop μ-loop
 cast-v c = omega (arith, digit-here c .to-nine)
 
--- src/lib.rt:190:13
 add-v : tie.Need-add-v Inv-loop μ-loop
 add-v c = omega (arith, digit-here c .to-nine, value-small (c .before .before .before .before .before .loop .inv))
 
--- src/lib.rt:191:9
 add-i : tie.Need-add-i Inv-loop μ-loop
 add-i c = omega arith
 
--- src/lib.rt:182:5
 loop-less : tie.Need-loop-less Inv-loop μ-loop
 loop-less c = omega arith
 
--- src/lib.rt:182:5
 loop-again : tie.Need-loop-again Inv-loop μ-loop
 loop-again c =
     let i = c .before .before .before .before in
     numbering-more (i .before .loop .inv) (i .loop-test .taken) (digit-here c) (c .if2 .left)
 
--- src/lib.rt:193:17
 sub-numeral-end-2 : tie.Need-sub-numeral-end-2 Inv-loop μ-loop
 sub-numeral-end-2 c = omega arith
 
--- src/lib.rt:193:5
 numeral-end-requires-2 : tie.Need-numeral-end-requires-2 Inv-loop μ-loop
 numeral-end-requires-2 c κs = tt
 
--- src/lib.rt:176:1
 returns-3 : tie.Need-returns-3 Inv-loop μ-loop
 returns-3 c = numbering-end (c .before .before .loop .inv) (c .numeral-end2 .result) (c .before .loop-test .left) (c .numeral-end2 .ensures)
 

@@ -6,18 +6,14 @@ use Rattle.reader.specs.declared.header.Numeral.the-variants.{Value}
 use borrow.Author.Needs.{needs}
 use Rattle.reader.proofs.header.numeral_end.Statement.{statement}
 use Rattle.reader.proofs.header.numeral_end.Tie as tie
-use Rattle.reader.proofs.header.numeral_end.Reads as reads
-use Rattle.reader.proofs.header.numeral_end.Lts as lts
 
 some-digit : (n v e : ℕ) → ¬ (n ≡ 0) → Value v e ≡ numeralEnd n v e
 some-digit zero v e p = absurd (p refl)
 some-digit (suc n) v e p = refl
 
--- src/lib.rt:170:9
 returns : tie.Need-returns
 returns c = search needs
 
--- src/lib.rt:166:1
 returns-2 : tie.Need-returns-2
 returns-2 c = some-digit _ _ _ (c .if1 .left)
 

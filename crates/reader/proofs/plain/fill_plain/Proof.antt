@@ -19,11 +19,6 @@ use Rattle.reader.proofs.FillingPlain.{
 }
 use Rattle.reader.proofs.plain.fill_plain.Statement.{statement}
 use Rattle.reader.proofs.plain.fill_plain.Tie as tie
-use Rattle.reader.proofs.plain.fill_plain.Reads as reads
-use Rattle.reader.proofs.plain.fill_plain.Lts as lts
-use Rattle.reader.proofs.raster.enter_bit.Reads as enter-bit-reads
-use Rattle.reader.proofs.plain.is_bit.Reads as is-bit-reads
-use Rattle.reader.proofs.raster.next.Reads as next-reads
 
 abbrev Inv-loop : tie.InvT-loop
 Inv-loop body w h ids₀ xs₀ ys₀ n₀ p₀ i₀ ids xs ys n p i = FillingAt w h (digitsOf body) ids₀ xs₀ ys₀ n p ids xs ys × PassedPlain w body p i
@@ -31,19 +26,15 @@ Inv-loop body w h ids₀ xs₀ ys₀ n₀ p₀ i₀ ids xs ys n p i = FillingAt 
 abbrev μ-loop : tie.MeasureT-loop
 μ-loop body w h ids₀ xs₀ ys₀ n₀ p₀ i₀ ids xs ys n p i = length body - i
 
--- src/lib.rt:446:5
 loop-holds : tie.Need-loop-holds Inv-loop μ-loop
 loop-holds c = (fill-start (plain-room (c .before .before .before .before .pre)), passed-start _ _)
 
--- src/lib.rt:447:17
 shared-slice-read-b : tie.Need-shared-slice-read-b Inv-loop μ-loop
 shared-slice-read-b c = omega arith
 
--- src/lib.rt:448:9
 add-i : tie.Need-add-i Inv-loop μ-loop
 add-i c = omega arith
 
--- src/lib.rt:449:12
 is-bit-requires : tie.Need-is-bit-requires Inv-loop μ-loop
 is-bit-requires c κs = tt
 
@@ -58,19 +49,15 @@ row-here t =
     let i = t .before .before .before in
     plain-row (i .before .before .before .before .before .before .pre) (i .loop-test .taken) (i .before .loop .inv .1) (bit-here t)
 
--- src/lib.rt:450:43
 sub-enter-bit : tie.Need-sub-enter-bit Inv-loop μ-loop
 sub-enter-bit c = bit-value (bit-here (c .before .before .before)) .0
 
--- src/lib.rt:450:63
 add-enter-bit : tie.Need-add-enter-bit Inv-loop μ-loop
 add-enter-bit c = omega (arith, row-here (c .before .before .before .before))
 
--- src/lib.rt:450:58
 sub-enter-bit-2 : tie.Need-sub-enter-bit-2 Inv-loop μ-loop
 sub-enter-bit-2 c = omega (arith, row-here (c .before .before .before .before))
 
--- src/lib.rt:450:13
 enter-bit-requires : tie.Need-enter-bit-requires Inv-loop μ-loop
 enter-bit-requires c κs =
     let t = c .before .before .before .before in
@@ -78,7 +65,6 @@ enter-bit-requires c κs =
     let s = l .before .before .before .before .before in
     fill-may (plain-room (s .pre)) (row-here t) (l .loop .inv .0) _ (passed-bit (t .before .before .before .loop-test .taken) (l .loop .inv .1) (bit-here t))
 
--- src/lib.rt:451:13
 next-requires : tie.Need-next-requires Inv-loop μ-loop
 next-requires c κs =
     let e = c .before .before .before .before .before .before in
@@ -87,11 +73,9 @@ next-requires c κs =
     let s = l .before .before .before .before .before in
     fill-step (plain-room (s .pre)) (row-here t) (l .loop .inv .0)
 
--- src/lib.rt:446:5
 loop-less : tie.Need-loop-less Inv-loop μ-loop
 loop-less c = omega arith
 
--- src/lib.rt:446:5
 loop-again : tie.Need-loop-again Inv-loop μ-loop
 loop-again c =
     let e = c .before .before .before .before .before .before .before in
@@ -103,30 +87,24 @@ loop-again c =
     (fill-more (plain-room (s .pre)) (row-here t) (l .loop .inv .0) b (e .enter-bit .ensures) (c .next .ensures) (e .enter-bit .kept .0),
      passed-digit (i .loop-test .taken) (l .loop .inv .1) (bit-here t) (c .next .ensures))
 
--- src/lib.rt:446:5
 loop-less-2 : tie.Need-loop-less-2 Inv-loop μ-loop
 loop-less-2 c = omega arith
 
--- src/lib.rt:446:5
 loop-again-2 : tie.Need-loop-again-2 Inv-loop μ-loop
 loop-again-2 c =
     let i = c .before .before .before in
     let l = i .before in
     (l .loop .inv .0, passed-other (i .loop-test .taken) (l .loop .inv .1) (answered-no (c .if1 .left) (c .before .is-bit .ensures .1)))
 
--- src/lib.rt:432:1
 same-length : tie.Need-same-length Inv-loop μ-loop
 same-length c = c .before .loop .inv .0 .size
 
--- src/lib.rt:432:1
 same-length-2 : tie.Need-same-length-2 Inv-loop μ-loop
 same-length-2 c = omega arith
 
--- src/lib.rt:432:1
 same-length-3 : tie.Need-same-length-3 Inv-loop μ-loop
 same-length-3 c = omega arith
 
--- src/lib.rt:432:1
 returns : tie.Need-returns Inv-loop μ-loop
 returns c =
     let l = c .before in

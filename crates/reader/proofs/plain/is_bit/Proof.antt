@@ -5,10 +5,7 @@ use Rattle.reader.specs.RasterParts.{BitByte, zero-byte, one-byte}
 use Rattle.reader.proofs.Answers.{answer-yes, answer-no}
 use Rattle.reader.proofs.plain.is_bit.Statement.{statement}
 use Rattle.reader.proofs.plain.is_bit.Tie as tie
-use Rattle.reader.proofs.plain.is_bit.Reads as reads
-use Rattle.reader.proofs.plain.is_bit.Lts as lts
 
--- src/lib.rt:394:9
 no-bit : {b : ℕ} → ¬ (b ≡ 48) → ¬ (b ≡ 49) → ¬ BitByte b
 no-bit p q (zero-byte e) = p e
 no-bit p q (one-byte e) = q e
@@ -16,11 +13,9 @@ no-bit p q (one-byte e) = q e
 returns : tie.Need-returns
 returns c = answer-yes (zero-byte (c .if1 .taken))
 
--- src/lib.rt:397:9
 returns-2 : tie.Need-returns-2
 returns-2 c = answer-yes (one-byte (c .if2 .taken))
 
--- src/lib.rt:390:1
 returns-3 : tie.Need-returns-3
 returns-3 c = answer-no (no-bit (c .before .if1 .left) (c .if2 .left))
 

@@ -20,10 +20,6 @@ use Rattle.reader.proofs.JudgingPlain.{
 }
 use Rattle.reader.proofs.plain.judge_plain.Statement.{statement}
 use Rattle.reader.proofs.plain.judge_plain.Tie as tie
-use Rattle.reader.proofs.plain.judge_plain.Reads as reads
-use Rattle.reader.proofs.plain.judge_plain.Lts as lts
-use Rattle.reader.proofs.plain.is_bit.Reads as is-bit-reads
-use Rattle.reader.proofs.header.is_blank.Reads as is-blank-reads
 
 abbrev Inv-loop : tie.InvT-loop
 Inv-loop body w h size digits₀ rocks₀ i₀ digits rocks i = JudgingPlain w h body digits rocks i
@@ -31,38 +27,30 @@ Inv-loop body w h size digits₀ rocks₀ i₀ digits rocks i = JudgingPlain w h
 abbrev μ-loop : tie.MeasureT-loop
 μ-loop body w h size digits₀ rocks₀ i₀ digits rocks i = length body - i
 
--- src/lib.rt:407:16
 mul-size : tie.Need-mul-size Inv-loop μ-loop
 mul-size c = omega (arith, crossings-few (c .before .pre))
 
--- src/lib.rt:411:5
 loop-holds : tie.Need-loop-holds Inv-loop μ-loop
 loop-holds c = judging-start _ _ _
 
--- src/lib.rt:412:17
 shared-slice-read-b : tie.Need-shared-slice-read-b Inv-loop μ-loop
 shared-slice-read-b c = omega arith
 
--- src/lib.rt:413:9
 add-i : tie.Need-add-i Inv-loop μ-loop
 add-i c = omega arith
 
--- src/lib.rt:414:13
 is-blank-requires : tie.Need-is-blank-requires Inv-loop μ-loop
 is-blank-requires c κs = tt
 
--- src/lib.rt:416:17
 returns : tie.Need-returns Inv-loop μ-loop
 returns c =
     let b = c .before .before in
     let i = b .before .before in
     judged-long (i .before .loop .inv) (i .loop-test .taken) (answered-no (not-true _ (c .before .if1 .taken)) (b .is-blank .ensures .1)) (c .if2 .taken)
 
--- src/lib.rt:418:17
 is-bit-requires : tie.Need-is-bit-requires Inv-loop μ-loop
 is-bit-requires c κs = tt
 
--- src/lib.rt:419:17
 returns-2 : tie.Need-returns-2 Inv-loop μ-loop
 returns-2 c =
     let b = c .before .before .before .before in
@@ -72,7 +60,6 @@ returns-2 c =
     (answered-no (not-true _ (c .if3 .taken)) (c .before .is-bit .ensures .1))
     (c .before .before .if2 .left)
 
--- src/lib.rt:421:13
 add-digits : tie.Need-add-digits Inv-loop μ-loop
 add-digits c =
     let l = c .before .before .before .before .before .before .before in
@@ -83,45 +70,36 @@ bit-here : (c : tie.Else3 Inv-loop μ-loop)
     → BitByte (getD (c .before .before .before .before .before .before .before .before .before .args .body .now) (c .before .before .before .before .before .before .before .loop .i) 0)
 bit-here c = c .before .is-bit .ensures .0 (not-false _ (c .if3 .left))
 
--- src/lib.rt:422:23
 sub-rocks : tie.Need-sub-rocks Inv-loop μ-loop
 sub-rocks c = bit-value (bit-here c) .0
 
--- src/lib.rt:422:22
 cast-rocks : tie.Need-cast-rocks Inv-loop μ-loop
 cast-rocks c = omega (arith, bit-value (bit-here c) .1)
 
--- src/lib.rt:422:13
 add-rocks : tie.Need-add-rocks Inv-loop μ-loop
 add-rocks c =
     let l = c .before .before .before .before .before .before .before in
     omega (arith, judging-few (l .loop .inv) (l .before .before .pre), bit-value (bit-here c) .1)
 
--- src/lib.rt:411:5
 loop-less : tie.Need-loop-less Inv-loop μ-loop
 loop-less c = omega arith
 
--- src/lib.rt:411:5
 loop-again : tie.Need-loop-again Inv-loop μ-loop
 loop-again c =
     let i = c .before .before .before .before .before .before in
     judging-bit (i .before .loop .inv) (i .loop-test .taken) (bit-here c) (c .before .before .if2 .left)
 
--- src/lib.rt:411:5
 loop-less-2 : tie.Need-loop-less-2 Inv-loop μ-loop
 loop-less-2 c = omega arith
 
--- src/lib.rt:411:5
 loop-again-2 : tie.Need-loop-again-2 Inv-loop μ-loop
 loop-again-2 c =
     let i = c .before .before .before in
     judging-blank (i .before .loop .inv) (i .loop-test .taken) (c .before .is-blank .ensures .0 (not-false _ (c .if1 .left)))
 
--- src/lib.rt:426:9
 returns-3 : tie.Need-returns-3 Inv-loop μ-loop
 returns-3 c = judged-short (c .before .before .loop .inv) (c .before .loop-test .left) (c .if4 .taken)
 
--- src/lib.rt:403:1
 returns-4 : tie.Need-returns-4 Inv-loop μ-loop
 returns-4 c = judged-good (c .before .before .loop .inv) (c .before .loop-test .left) (c .if4 .left)
 

@@ -5,70 +5,52 @@ use Rattle.reader.proofs.Entering.{enters-none, enters-one}
 use borrow.Author.Needs.{needs}
 use Rattle.reader.proofs.raster.enter_bit.Statement.{statement}
 use Rattle.reader.proofs.raster.enter_bit.Tie as tie
-use Rattle.reader.proofs.raster.enter_bit.Reads as reads
-use Rattle.reader.proofs.raster.enter_bit.Lts as lts
 
--- src/lib.rt:360:9
 returns : tie.Need-returns
 returns c = enters-none _ _ _ _ _ _ _ (c .before .pre .parallel) (c .if1 .taken)
 
--- src/lib.rt:362:15
 add-ids : tie.Need-add-ids
 add-ids c = omega (arith, c .before .pre .few (c .if1 .left), most-markers-is)
 
--- src/lib.rt:362:14
 cast-ids : tie.Need-cast-ids
 cast-ids c = omega (arith, c .before .pre .few (c .if1 .left), most-markers-is)
 
--- src/lib.rt:362:5
 mul-ids : tie.Need-mul-ids
 mul-ids c = omega (arith, c .before .pre .few (c .if1 .left), most-markers-is)
 
--- src/lib.rt:362:5
 slice-write-ids : tie.Need-slice-write-ids
 slice-write-ids c = c .before .pre .room (c .if1 .left)
 
--- src/lib.rt:363:13
 cast-xs : tie.Need-cast-xs
 cast-xs c = omega (arith, side-is)
 
--- src/lib.rt:363:5
 mul-xs : tie.Need-mul-xs
 mul-xs c = omega (arith, c .before .pre .few (c .if1 .left), most-markers-is)
 
--- src/lib.rt:363:5
 slice-write-xs : tie.Need-slice-write-xs
 slice-write-xs c = omega (arith, c .before .pre .room (c .if1 .left), c .before .pre .parallel .as-xs)
 
--- src/lib.rt:364:13
 cast-ys : tie.Need-cast-ys
 cast-ys c = omega (arith, side-is)
 
--- src/lib.rt:364:5
 mul-ys : tie.Need-mul-ys
 mul-ys c = omega (arith, c .before .pre .few (c .if1 .left), most-markers-is)
 
--- src/lib.rt:364:5
 slice-write-ys : tie.Need-slice-write-ys
 slice-write-ys c = omega (arith, c .before .pre .room (c .if1 .left), c .before .pre .parallel .as-ys)
 
--- src/lib.rt:365:5
 add-result : tie.Need-add-result
 add-result c = omega (arith, c .before .pre .few (c .if1 .left), most-markers-is)
 
--- src/lib.rt:347:1
 same-length : tie.Need-same-length
 same-length c = search needs
 
--- src/lib.rt:347:1
 same-length-2 : tie.Need-same-length-2
 same-length-2 c = search needs
 
--- src/lib.rt:347:1
 same-length-3 : tie.Need-same-length-3
 same-length-3 c = search needs
 
--- src/lib.rt:347:1
 returns-2 : tie.Need-returns-2
 returns-2 c = enters-one _ _ _ _ _ _ _ (c .before .pre .parallel) (c .if1 .left)
 

@@ -4,26 +4,19 @@ use Rattle.reader.proofs.Limits.{side-is}
 use borrow.Author.Needs.{needs}
 use Rattle.reader.proofs.raster.next.Statement.{statement}
 use Rattle.reader.proofs.raster.next.Tie as tie
-use Rattle.reader.proofs.raster.next.Reads as reads
-use Rattle.reader.proofs.raster.next.Lts as lts
 
--- src/lib.rt:287:8
 add-if1 : tie.Need-add-if1
 add-if1 c = search needs
 
--- src/lib.rt:289:16
 add-t5 : tie.Need-add-t5
 add-t5 c = search needs
 
--- src/lib.rt:288:9
 returns : tie.Need-returns
 returns c = search needs
 
--- src/lib.rt:295:14
 add-t3 : tie.Need-add-t3
 add-t3 c = omega (arith, side-is)
 
--- src/lib.rt:283:1
 returns-2 : tie.Need-returns-2
 returns-2 c = search needs
 

@@ -1,24 +1,11 @@
 -- `count_raw` meets its contract: the loop keeps Counting, and each turn passes one crossing more.
-use Prim.Native.Nat.{_+_, _*_, _-_}
+use Prim.Native.Nat.{_*_, _-_}
 use native.Mathlib.Omega.{arith}
 use Rattle.reader.specs.RasterParts.{placeOf}
 use Rattle.reader.proofs.Rows.{place-below}
-use Rattle.reader.proofs.Counting.{
-  Counting,
-  bit-small,
-  counting-start,
-  counting-look,
-  counting-step,
-  counting-few,
-  counting-more,
-  counting-end,
-}
+use Rattle.reader.proofs.Counting.{Counting, bit-small, counting-start, counting-look, counting-step, counting-few, counting-more, counting-end}
 use Rattle.reader.proofs.raw.count_raw.Statement.{statement}
 use Rattle.reader.proofs.raw.count_raw.Tie as tie
-use Rattle.reader.proofs.raw.count_raw.Reads as reads
-use Rattle.reader.proofs.raw.count_raw.Lts as lts
-use Rattle.reader.proofs.raw.bit_at.Reads as bit-at-reads
-use Rattle.reader.proofs.raster.next.Reads as next-reads
 
 abbrev Inv-loop : tie.InvT-loop
 Inv-loop body w h rocks₀ p₀ rocks p = Counting w h body rocks p
@@ -26,35 +13,29 @@ Inv-loop body w h rocks₀ p₀ rocks p = Counting w h body rocks p
 abbrev μ-loop : tie.MeasureT-loop
 μ-loop body w h rocks₀ p₀ rocks p = h * w - (placeOf w p)
 
--- src/lib.rt:315:5
 loop-holds : tie.Need-loop-holds Inv-loop μ-loop
 loop-holds c = counting-start (c .before .pre)
 
--- src/lib.rt:316:18
 bit-at-requires : tie.Need-bit-at-requires Inv-loop μ-loop
 bit-at-requires c κs = counting-look (c .before .before .before .before .pre) (c .if1 .taken) (c .before .before .loop .inv)
 
--- src/lib.rt:316:18
 cast-rocks : tie.Need-cast-rocks Inv-loop μ-loop
 cast-rocks c =
     let l = c .before .before .before in
     let s = l .before .before .args in
     omega (arith, bit-small (s .w) (s .body .now) (l .loop .p .row) (l .loop .p .x), c .bit-at .ensures)
 
--- src/lib.rt:316:9
 add-rocks : tie.Need-add-rocks Inv-loop μ-loop
 add-rocks c =
     let l = c .before .before .before in
     let s = l .before .before .args in
     omega (arith, counting-few (l .before .before .pre) (l .loop .inv), bit-small (s .w) (s .body .now) (l .loop .p .row) (l .loop .p .x), c .bit-at .ensures)
 
--- src/lib.rt:317:9
 next-requires : tie.Need-next-requires Inv-loop μ-loop
 next-requires c κs =
     let l = c .before .before .before in
     counting-step (l .before .before .pre) (c .before .if1 .taken) (l .loop .inv)
 
--- src/lib.rt:315:5
 loop-less : tie.Need-loop-less Inv-loop μ-loop
 loop-less c =
     let l = c .before .before .before .before in
@@ -62,13 +43,11 @@ loop-less c =
     let s = l .before .before .args in
     omega (arith, c .next .ensures .next, place-below (s .w) (s .h) (p .row) (p .x) (c .before .before .if1 .taken) (l .loop .inv .in-x))
 
--- src/lib.rt:315:5
 loop-again : tie.Need-loop-again Inv-loop μ-loop
 loop-again c =
     let l = c .before .before .before .before in
     counting-more (l .before .before .pre) (c .before .before .if1 .taken) (c .before .bit-at .ensures) (c .next .ensures) (l .loop .inv)
 
--- src/lib.rt:309:1
 returns : tie.Need-returns Inv-loop μ-loop
 returns c = counting-end (c .before .before .before .before .pre) (c .if1 .left) (c .before .before .loop .inv)
 

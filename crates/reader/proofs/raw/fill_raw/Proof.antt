@@ -8,11 +8,6 @@ use Rattle.reader.proofs.FillingRaw.{raw-room, raw-look, raw-bit, raw-f
 use Rattle.reader.proofs.Rows.{place-below}
 use Rattle.reader.proofs.raw.fill_raw.Statement.{statement}
 use Rattle.reader.proofs.raw.fill_raw.Tie as tie
-use Rattle.reader.proofs.raw.fill_raw.Reads as reads
-use Rattle.reader.proofs.raw.fill_raw.Lts as lts
-use Rattle.reader.proofs.raw.bit_at.Reads as bit-at-reads
-use Rattle.reader.proofs.raster.enter_bit.Reads as enter-bit-reads
-use Rattle.reader.proofs.raster.next.Reads as next-reads
 
 abbrev Inv-loop : tie.InvT-loop
 Inv-loop body w h ids₀ xs₀ ys₀ n₀ p₀ ids xs ys n p = FillingAt w h (rawBits w h body) ids₀ xs₀ ys₀ n p ids xs ys
@@ -20,25 +15,20 @@ Inv-loop body w h ids₀ xs₀ ys₀ n₀ p₀ ids xs ys n p = FillingAt w h (ra
 abbrev μ-loop : tie.MeasureT-loop
 μ-loop body w h ids₀ xs₀ ys₀ n₀ p₀ ids xs ys n p = h * w - placeOf w p
 
--- src/lib.rt:382:5
 loop-holds : tie.Need-loop-holds Inv-loop μ-loop
 loop-holds c = fill-start (raw-room (c .before .before .before .before .pre))
 
--- src/lib.rt:383:13
 bit-at-requires : tie.Need-bit-at-requires Inv-loop μ-loop
 bit-at-requires c κs =
     let l = c .before .before in
     raw-look (l .before .before .before .before .before .pre) (c .if1 .taken) (l .loop .inv .in-x)
 
--- src/lib.rt:384:54
 add-enter-bit : tie.Need-add-enter-bit Inv-loop μ-loop
 add-enter-bit c = omega (arith, c .before .before .before .before .before .if1 .taken)
 
--- src/lib.rt:384:49
 sub-enter-bit : tie.Need-sub-enter-bit Inv-loop μ-loop
 sub-enter-bit c = omega (arith, c .before .before .before .before .before .if1 .taken)
 
--- src/lib.rt:384:9
 enter-bit-requires : tie.Need-enter-bit-requires Inv-loop μ-loop
 enter-bit-requires c κs =
     let b = c .before .before .before .before in
@@ -47,7 +37,6 @@ enter-bit-requires c κs =
     let t = b .before .if1 .taken in
     fill-may (raw-room (s .pre)) t (l .loop .inv) _ (raw-bit (s .pre) t (l .loop .inv .in-x) (b .bit-at .ensures))
 
--- src/lib.rt:385:9
 next-requires : tie.Need-next-requires Inv-loop μ-loop
 next-requires c κs =
     let e = c .before .before .before .before .before .before in
@@ -56,7 +45,6 @@ next-requires c κs =
     let s = l .before .before .before .before .before in
     fill-step (raw-room (s .pre)) (t .if1 .taken) (l .loop .inv)
 
--- src/lib.rt:382:5
 loop-less : tie.Need-loop-less Inv-loop μ-loop
 loop-less c =
     let e = c .before .before .before .before .before .before .before in
@@ -65,7 +53,6 @@ loop-less c =
     let a = l .before .before .before .before .before .args in
     omega (arith, c .next .ensures .next, place-below (a .w) (a .h) (l .loop .p .row) (l .loop .p .x) (t .if1 .taken) (l .loop .inv .in-x))
 
--- src/lib.rt:382:5
 loop-again : tie.Need-loop-again Inv-loop μ-loop
 loop-again c =
     let e = c .before .before .before .before .before .before .before in
@@ -75,19 +62,15 @@ loop-again c =
     let s = l .before .before .before .before .before in
     fill-more (raw-room (s .pre)) (t .if1 .taken) (l .loop .inv) (raw-bit (s .pre) (t .if1 .taken) (l .loop .inv .in-x) (b .bit-at .ensures)) (e .enter-bit .ensures) (c .next .ensures) (e .enter-bit .kept .0)
 
--- src/lib.rt:369:1
 same-length : tie.Need-same-length Inv-loop μ-loop
 same-length c = c .before .before .loop .inv .size
 
--- src/lib.rt:369:1
 same-length-2 : tie.Need-same-length-2 Inv-loop μ-loop
 same-length-2 c = omega arith
 
--- src/lib.rt:369:1
 same-length-3 : tie.Need-same-length-3 Inv-loop μ-loop
 same-length-3 c = omega arith
 
--- src/lib.rt:369:1
 returns : tie.Need-returns Inv-loop μ-loop
 returns c = raw-fills (c .before .before .before .before .before .before .before .pre) (c .if1 .left) (c .before .before .loop .inv)
 

@@ -7,24 +7,16 @@ use Rattle.reader.proofs.Judging.{raw-judged-short, raw-judged-long, ra
 use borrow.Author.Needs.{needs}
 use Rattle.reader.proofs.raw.judge_raw.Statement.{statement}
 use Rattle.reader.proofs.raw.judge_raw.Tie as tie
-use Rattle.reader.proofs.raw.judge_raw.Reads as reads
-use Rattle.reader.proofs.raw.judge_raw.Lts as lts
-use Rattle.reader.proofs.raw.count_raw.Reads as count-raw-reads
-use Rattle.reader.proofs.raw.row_bytes.Reads as row-bytes-reads
 
--- src/lib.rt:327:20
 row-bytes-requires : tie.Need-row-bytes-requires
 row-bytes-requires c κs = search needs
 
--- src/lib.rt:327:16
 mul-size : tie.Need-mul-size
 mul-size c = rw (c .row-bytes .ensures) (omega (arith, rows-few (c .before .before .pre)))
 
--- src/lib.rt:329:9
 returns : tie.Need-returns
 returns c = raw-judged-short _ _ _ _ (rw (c .before .row-bytes .ensures) at (c .if1 .taken))
 
--- src/lib.rt:335:9
 returns-2 : tie.Need-returns-2
 returns-2 c = raw-judged-long _ _ _ _ (rw (c .before .before .row-bytes .ensures) at (c .if2 .taken))
 
@@ -32,11 +24,9 @@ returns-2 c = raw-judged-long _ _ _ _ (rw (c .before .before .row-bytes .ensures
 size-is : (h : ℕ) {r n b : ℕ} → r ≡ b → h * r ≤ n → n ≤ h * r → n ≡ h * b
 size-is h e p q = rw (← e) (omega arith)
 
--- src/lib.rt:342:16
 count-raw-requires : tie.Need-count-raw-requires
 count-raw-requires c κs = record { sides = c .before .before .before .before .pre; size = size-is _ (c .before .before .row-bytes .ensures) (c .before .if1 .left) (c .if2 .left) }
 
--- src/lib.rt:323:1
 returns-3 : tie.Need-returns-3
 returns-3 c = raw-judged-good _ _ _ _ (size-is _ (c .before .before .before .row-bytes .ensures) (c .before .before .if1 .left) (c .before .if2 .left)) (c .count-raw .ensures)
 

@@ -5,14 +5,10 @@ use Rattle.mapfile.specs.Raster.{rowBytes}
 use Rattle.reader.proofs.Limits.{side-is}
 use Rattle.reader.proofs.raw.row_bytes.Statement.{statement}
 use Rattle.reader.proofs.raw.row_bytes.Tie as tie
-use Rattle.reader.proofs.raw.row_bytes.Reads as reads
-use Rattle.reader.proofs.raw.row_bytes.Lts as lts
 
--- src/lib.rt:279:6
 add-result : tie.Need-add-result
 add-result c = omega (arith, side-is)
 
--- src/lib.rt:275:1
 returns : tie.Need-returns
 unfolding rowBytes
 returns c = refl
