@@ -104,8 +104,8 @@ number-end (b ∷ l) f zero v s = absurd (omega arith)
 number-end (b ∷ l) f (suc n) v s = number-stop l (suc n) v f
 
 -- All digits are taken.
-pub number-taken : (d : List ℕ) (rest : List ℕ) (n v : ℕ) → ((k : ℕ) → k < length d → Digit (getD d k 0)) → 1 ≤ n + length d → n + length d ≤ most-digits
-    → NoDigitFirst rest → numberFrom (d ++ rest) n v ≡ value (valueFrom v d) rest
+pub number-taken : (d : List ℕ) (rest : List ℕ) (n v : ℕ) → ((k : ℕ) → k < length d → Digit (getD d k 0)) → 1 ≤ n + length d
+    → n + length d ≤ most-digits → NoDigitFirst rest → numberFrom (d ++ rest) n v ≡ value (valueFrom v d) rest
 unfolding valueFrom
 number-taken [] rest n v digits one few f = number-end rest f n v (omega arith)
 number-taken (b ∷ d) rest n v digits one few f =
@@ -130,7 +130,9 @@ numbers-first rest (next-number v s d k q n m p e) =
 pub next-complete : {v : ℕ} (s d rest : List ℕ) → Separator s → Number v d → NoDigitFirst rest → nextNumber (s ++ d ++ rest) ≡ value v rest
 unfolding nextNumber numberAfter
 next-complete {v} s d rest q n f =
-    ap numberAfter (ap (λ (l : List ℕ). afterItems l false) (append-assoc s d rest) ∙ items-skipped (q .items) (d ++ rest) (number-first d rest n) false (inr (q .some)))
+    ap numberAfter
+    (ap (λ (l : List ℕ). afterItems l false) (append-assoc s d rest)
+    ∙ items-skipped (q .items) (d ++ rest) (number-first d rest n) false (inr (q .some)))
     ∙ number-taken d rest 0 0 (n .digits) (omega (arith, n .some)) (omega (arith, n .few)) f
     ∙ ap (λ (u : ℕ). value u rest) (sym (n .value))
 

@@ -85,7 +85,8 @@ pub plain-raster-one : {w h : ℕ} {l bits bits′ : List ℕ} → PlainRaster w
 plain-raster-one a b = digits-are (a .digits) ∙ sym (digits-are (b .digits))
 
 -- The verdict passes over digits and blanks.
-pub verdict-digits : {bits l : List ℕ} → Digits bits l → (rest : List ℕ) (n : ℕ) → length bits ≤ n → plainVerdict (l ++ rest) n ≡ plainVerdict rest (n - length bits)
+pub verdict-digits : {bits l : List ℕ} → Digits bits l → (rest : List ℕ) (n : ℕ) → length bits ≤ n
+    → plainVerdict (l ++ rest) n ≡ plainVerdict rest (n - length bits)
 verdict-digits (ended p q) rest n m = rw (p, q) (ap (plainVerdict rest) (omega arith))
 verdict-digits (skip {k} b s d e) rest n m = rw e (verdict-blank (k ++ rest) n s ∙ verdict-digits d rest n m)
 verdict-digits (zero-digit {rest = bs} {k} d p e) rest zero m = absurd (omega (arith, ap length p))

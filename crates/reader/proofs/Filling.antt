@@ -59,9 +59,14 @@ module _ {w h : ℕ} {bits ids₀ xs₀ ys₀ : List ℕ} (m : Room w h bits ids
     -- A bit that is not 0 finds a slot.
     left : ¬ (getD bits (placeOf w p) 0 ≡ 0) → n < ones bits
     left e =
-        omega
-        (arith, k .filling .made, ones-snoc (take (placeOf w p) bits) (getD bits (placeOf w p) 0) (m .are (placeOf w p)), ap ones passed,
-         ap ones (take-append-drop (placeOf w p + 1) bits), ones-append (take (placeOf w p + 1) bits) (drop (placeOf w p + 1) bits))
+        omega (
+          arith,
+          k .filling .made,
+          ones-snoc (take (placeOf w p) bits) (getD bits (placeOf w p) 0) (m .are (placeOf w p)),
+          ap ones passed,
+          ap ones (take-append-drop (placeOf w p + 1) bits),
+          ones-append (take (placeOf w p + 1) bits) (drop (placeOf w p + 1) bits),
+        )
 
     pub fill-may : (bit : ℕ) → bit ≡ getD bits (placeOf w p) 0 → MayEnterBit ids xs ys n bit (p .x) (h - (p .row + 1))
     fill-may bit e =
@@ -109,4 +114,7 @@ module _ {w h : ℕ} {bits ids₀ xs₀ ys₀ : List ℕ} (m : Room w h bits ids
     where
       last : {done : List ℕ} → done ≡ bits → Filling w h done (listOf ids₀ xs₀ ys₀) n (listOf ids xs ys)
           → listOf ids xs ys ≡ markersOf w h bits ++ drop (ones bits) (listOf ids₀ xs₀ ys₀)
-      last {done} q f = f .slots ∙ ap (λ (i : ℕ). markersOf w h done ++ drop i (listOf ids₀ xs₀ ys₀)) (f .made) ∙ ap (λ (d : List ℕ). markersOf w h d ++ drop (ones d) (listOf ids₀ xs₀ ys₀)) q
+      last {done} q f =
+          f .slots
+          ∙ ap (λ (i : ℕ). markersOf w h done ++ drop i (listOf ids₀ xs₀ ys₀)) (f .made)
+          ∙ ap (λ (d : List ℕ). markersOf w h d ++ drop (ones d) (listOf ids₀ xs₀ ys₀)) q

@@ -66,7 +66,8 @@ unfolding nextNumber numberAfter
 next-none l e = ap numberAfter e
 
 -- A header: its two numbers and the last blank. Without one of the three there is none.
-pub head-sides : (l m n rest : List ℕ) (w h : ℕ) → nextNumber l ≡ value w m → nextNumber m ≡ value h n → lastBlank n ≡ some rest → Header (w ∷ h ∷ []) l rest
+pub head-sides : (l m n rest : List ℕ) (w h : ℕ) → nextNumber l ≡ value w m → nextNumber m ≡ value h n → lastBlank n ≡ some rest
+    → Header (w ∷ h ∷ []) l rest
 unfolding GivesNumbers
 head-sides l m n rest w h p q r = header-sound (w ∷ h ∷ []) l rest (m, p, (n, q, r))
 
@@ -80,7 +81,8 @@ pub no-width : (l : List ℕ) → nextNumber l ≡ no-value → (w h : ℕ) (bod
 unfolding GivesNumbers
 no-width l p w h body k = let g = header-complete k in no-value-some (sym p ∙ g .1)
 
-pub no-height : (l m : List ℕ) (u : ℕ) → nextNumber l ≡ value u m → nextNumber m ≡ no-value → (w h : ℕ) (body : List ℕ) → ¬ Header (w ∷ h ∷ []) l body
+pub no-height : (l m : List ℕ) (u : ℕ) → nextNumber l ≡ value u m → nextNumber m ≡ no-value → (w h : ℕ) (body : List ℕ)
+    → ¬ Header (w ∷ h ∷ []) l body
 unfolding GivesNumbers
 no-height l m u p q w h body k =
     let g = header-complete k in

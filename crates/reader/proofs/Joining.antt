@@ -1,5 +1,5 @@
 -- The reader's parts put together: a raster judged, given room and entered is read; a raster read after letters, header and sides is a file read.
-use mathlib.Core.Path.{_≡_, refl, sym, ap, _∙_}
+use mathlib.Core.Path.{_≡_, refl, sym, ap, subst, _∙_}
 use mathlib.Core.List.{List, [], _∷_, _++_}
 use mathlib.Core.Logic.{_⊎_, inl, inr}
 use Prim.Native.Nat.{ℕ, _-_, _<_, _≤_}
@@ -28,7 +28,7 @@ use Rattle.mapfile.specs.File.{
   NoSlot,
 }
 use Rattle.reader.specs.Promise.{Taken, Turned, Reads}
-use Rattle.reader.specs.RasterParts.{RasterOf, JudgedAs, HasRoom, MayFill, Fills, MayReadRaster, RasterTaken, RasterOver, RasterTurned, RasterReads}
+use Rattle.reader.specs.RasterParts.{RasterOf, JudgedAs, HasRoom, RasterRefusal, at-fault, at-slots, at-none, MayFill, Fills, MayReadRaster, RasterTaken, RasterOver, RasterTurned, RasterReads}
 use Rattle.reader.specs.declared.raster.Judged.{Judged}
 use Rattle.reader.specs.declared.Reading.{Reading}
 use Rattle.reader.specs.declared.Reading.the-variants.{Map, Refused}
@@ -38,19 +38,13 @@ module _ (f : Format) (w h : ℕ) (body ids xs ys : List ℕ) (m : MayReadRaster
   long : length (listOf ids xs ys) ≡ length ids
   long = listOf-length ids xs ys (m .parallel)
 
-  pub raster-faulty : ¬ (j .fault ≡ 0) → RasterTurned f w h body (listOf ids xs ys) (j .fault) (listOf ids xs ys)
-  raster-faulty n = record { fault = inl (k .faulty n); same = refl }
-
   module _ (good : j .fault ≡ 0) where
     of : RasterOf f w h body (j .rocks)
     of = k .good good
 
-    pub raster-over : ¬ HasRoom (j .rocks) (length ids) → RasterTurned f w h body (listOf ids xs ys) no-slot (listOf ids xs ys)
+    raster-over : ¬ HasRoom (j .rocks) (length ids) → RasterOver f w h body (length (listOf ids xs ys))
     raster-over n =
-        record {
-          fault = inr (record { bits = of .bits; raster = of .raster; many = over (decLe (j .rocks) (length ids)) (decLe (j .rocks) most-markers) }, refl);
-          same = refl;
-        }
+        record { bits = of .bits; raster = of .raster; many = over (decLe (j .rocks) (length ids)) (decLe (j .rocks) most-markers) }
       where
         over : Dec (j .rocks ≤ length ids) → Dec (j .rocks ≤ most-markers)
             → (length (listOf ids xs ys) < length (markersOf w h (of .bits))) ⊎ (most-markers < length (markersOf w h (of .bits)))
@@ -81,9 +75,21 @@ module _ (f : Format) (w h : ℕ) (body ids xs ys : List ℕ) (m : MayReadRaster
             counted = of .counted;
             room = record { room = omega (arith, room .room, long); few = room .few };
             slots =
-              t .slots (of .bits) (of .raster)
-              ∙ ap (λ (i : ℕ). markersOf w h (of .bits) ++ drop i (listOf ids xs ys)) (sym (of .counted));
+                t .slots (of .bits) (of .raster)
+                ∙ ap (λ (i : ℕ). markersOf w h (of .bits) ++ drop i (listOf ids xs ys)) (sym (of .counted));
           }
+
+  -- A refusal is the raster's fault, or 7 where its rocks find no slot.
+  pub raster-turned : {n : ℕ} → RasterRefusal j (length ids) n → ¬ (n ≡ 0) → RasterTurned f w h body (listOf ids xs ys) n (listOf ids xs ys)
+  raster-turned (at-fault p e) z = record { fault = inl (subst (RasterFault f w h body) (sym e) (k .faulty p)); same = refl }
+  raster-turned (at-slots p q e) z = record { fault = inr (raster-over p q, e); same = refl }
+  raster-turned (at-none p q e) z = absurd (z e)
+
+-- No refusal: the raster is good, and its rocks find a slot each.
+pub raster-fine : {j : Judged} {lent n : ℕ} → RasterRefusal j lent n → n ≡ 0 → (j .fault ≡ 0) × HasRoom (j .rocks) lent
+raster-fine (at-fault p e) z = absurd (p (sym e ∙ z))
+raster-fine (at-slots p q e) z = absurd (omega arith)
+raster-fine (at-none p q e) z = (p, q)
 
 -- The slice from the raster's first byte on is what follows the header.
 pub part-is : (s : List ℕ) (e : ℕ) → take (length s - e) (drop e s) ≡ drop e s

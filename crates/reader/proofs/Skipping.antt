@@ -8,7 +8,7 @@ use native.Mathlib.Omega.{arith}
 use native.Mathlib.Numerals.{add-one}
 use lib.ListN.{length, getD, drop, drop-of-length-le}
 use lib.Seq.{drop-cons}
-use Rattle.mapfile.specs.Header.{Blank, LineEnd, at-return, at-feed}
+use Rattle.mapfile.specs.Header.{Blank, LineEnd}
 use Rattle.mapfile.specs.HeaderWorking.{
   endItems,
   afterItems,
@@ -59,7 +59,7 @@ module _ {s : List ℕ} {at i : ℕ} {seen any : Bool} (k : SkippingBlanks s at 
   blanks-stop r l b h q =
       rw (k .same)
       (end-read any
-       (ap (λ (m : List ℕ). afterItems m any) (left-cons s i l) ∙ items-stop (drop (i + 1) s) any b h ∙ ap (endItems any) (sym (left-cons s i l))) r q)
+      (ap (λ (m : List ℕ). afterItems m any) (left-cons s i l) ∙ items-stop (drop (i + 1) s) any b h ∙ ap (endItems any) (sym (left-cons s i l))) r q)
 
   pub blanks-end : (r : Gap) → length s ≤ i → r ≡ gapEnd i any → GapRead s (afterItems (drop at s) seen) r
   blanks-end r l q =
@@ -76,17 +76,13 @@ pub comment-start : (s : List ℕ) (at : ℕ) (seen : Bool) → at ≤ length s 
 comment-start s at seen l = record { from = omega arith; within = l; same = refl }
 
 module _ {s : List ℕ} {at i : ℕ} {seen : Bool} (k : SkippingComment s at seen i) where
-  pub comment-more : i < length s → ¬ (getD s i 0 ≡ 13) → ¬ (getD s i 0 ≡ 10) → SkippingComment s at seen (i + 1)
-  comment-more l p q =
+  pub comment-more : i < length s → ¬ LineEnd (getD s i 0) → SkippingComment s at seen (i + 1)
+  comment-more l n =
       record {
         from = omega (arith, k .from);
         within = omega arith;
-        same = k .same ∙ ap (λ (m : List ℕ). afterComment m seen) (left-cons s i l) ∙ comment-goes-on (drop (i + 1) s) seen no-end;
+        same = k .same ∙ ap (λ (m : List ℕ). afterComment m seen) (left-cons s i l) ∙ comment-goes-on (drop (i + 1) s) seen n;
       }
-    where
-      no-end : LineEnd (getD s i 0) → ⊥
-      no-end (at-return e) = p e
-      no-end (at-feed e) = q e
 
   pub comment-end : (r : Gap) → i < length s → LineEnd (getD s i 0) → GapRead s (afterItems (drop (i + 1) s) seen) r
       → GapRead s (afterComment (drop at s) seen) r

@@ -28,8 +28,8 @@ module _ {file : List ℕ} {list after : List Marker} {w h count : ℕ} (t : Tak
       record {
         few = t .few;
         lent =
-          omega
-          (arith, t .lent, t .counted, ap length (t .slots), length-append (markersOf w h (t .bits)) (drop count list), length-drop count list);
+            omega
+            (arith, t .lent, t .counted, ap length (t .slots), length-append (markersOf w h (t .bits)) (drop count list), length-drop count list);
         some-id = λ k l. omega (arith, id-is k l);
         on = λ k l. rw (slot-is k l) (marker-on (t .bits) (t .map .sides) long k (omega (arith, t .counted)));
         rising = λ k l. omega (arith, id-is k (omega arith), id-is (k + 1) l);

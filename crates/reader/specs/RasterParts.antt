@@ -7,7 +7,7 @@ use Prim.Native.Nat.{ℕ, zero, suc, _+_, _*_, _/_, _<_, _≤_}
 use lib.ListN.{length, drop, set}
 use Rattle.field.specs.declared.Marker.{Marker}
 use Rattle.field.specs.Map.{side, most-markers, Sides}
-use Rattle.field.specs.Refusals.{no-slot}
+use Rattle.field.specs.Refusals.{success, no-slot}
 use Rattle.markers.specs.Promise.{marker, listOf, Parallel}
 use Rattle.mapfile.specs.Raster.{rowBytes}
 use Rattle.mapfile.specs.File.{Format, plain, raw, Letters, Raster, RasterFault, markersOf}
@@ -102,6 +102,12 @@ formatOf false = raw
 pub record HasRoom (rocks lent : ℕ) : Type 0 where
   pub room : rocks ≤ lent
   pub few : rocks ≤ most-markers
+
+-- "at the first fault met 13, 14 or 15, then 7": the refusal of a raster that was judged, or 0.
+pub data RasterRefusal (j : Judged) (lent n : ℕ) : Type 0 where
+  at-fault : ¬ (j .fault ≡ 0) → n ≡ j .fault → RasterRefusal j lent n
+  at-slots : j .fault ≡ 0 → ¬ HasRoom (j .rocks) lent → n ≡ no-slot → RasterRefusal j lent n
+  at-none : j .fault ≡ 0 → HasRoom (j .rocks) lent → n ≡ success → RasterRefusal j lent n
 
 -- What reading a raster asks: a map's sides, and the list.
 pub record MayReadRaster (w h : ℕ) (ids xs ys : List ℕ) : Type 0 where

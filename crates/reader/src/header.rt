@@ -5,7 +5,7 @@ ghost use mathlib.Core.Bool.{true};
 ghost use mathlib.Core.Logic.{_↔_};
 ghost use Prim.Native.Nat.{ℕ, _≤_};
 ghost use lib.ListN.{length, drop};
-ghost use Rattle.mapfile.specs.Header.{Blank, Digit};
+ghost use Rattle.mapfile.specs.Header.{Blank, LineEnd, Digit};
 ghost use Rattle.mapfile.specs.HeaderWorking.{afterItems, afterComment, numberFrom, nextNumber, lastBlank};
 ghost use Rattle.reader.specs.HeaderParts.{GapRead, gapEnd, NumeralRead, numeralEnd, HeadRead};
 
@@ -40,6 +40,19 @@ pub(crate) fn is_blank(b: u8) -> bool
     if b == b'\t' {
         return true;
     }
+    if b == b'\r' {
+        return true;
+    }
+    if b == b'\n' {
+        return true;
+    }
+    false
+}
+
+// CR or LF, either of which ends a comment.
+fn is_line_end(b: u8) -> bool
+    ensures { λ r. ⌜ ((r ≡ true) ↔ LineEnd b) ⌝ }
+{
     if b == b'\r' {
         return true;
     }
@@ -86,10 +99,7 @@ fn skip_comment(src: &[u8], at: usize, seen: bool) -> Gap
 {
     let mut i = at;
     while i < src.len() {
-        if src[i] == b'\r' {
-            return skip_blanks(src, i + 1, seen);
-        }
-        if src[i] == b'\n' {
+        if is_line_end(src[i]) {
             return skip_blanks(src, i + 1, seen);
         }
         i += 1;

@@ -5,6 +5,7 @@ mod header;
 mod plain;
 mod raster;
 mod raw;
+
 use header::Head;
 use raster::Judged;
 ghost use mathlib.Core.Path.{_≡_};
@@ -15,7 +16,7 @@ ghost use Rattle.field.specs.Map.{Sides};
 ghost use Rattle.markers.specs.Promise.{listOf, Parallel};
 ghost use Rattle.reader.specs.Promise.{Reads};
 ghost use Rattle.reader.specs.HeaderParts.{SameTwo, LettersRead};
-ghost use Rattle.reader.specs.RasterParts.{JudgedAs, MayFill, Fills, formatOf, HasRoom, MayReadRaster, RasterReads, MayReadMap};
+ghost use Rattle.reader.specs.RasterParts.{JudgedAs, MayFill, Fills, formatOf, HasRoom, RasterRefusal, MayReadRaster, RasterReads, MayReadMap};
 
 // "Width and height: 1 to 64 each."
 const SIDE: usize = 64;
@@ -128,7 +129,21 @@ fn has_room(rocks: usize, lent: usize) -> bool
     true
 }
 
-// Reads the raster: "at the first fault met 13, 14 or 15, then 7". Only then are its rocks entered.
+// The refusal of a raster that was judged, or 0: "at the first fault met 13, 14 or 15, then 7".
+fn refusal(judged: Judged, lent: usize) -> u8
+    ensures { λ r. ⌜ RasterRefusal judged lent r ⌝ }
+{
+    let room = has_room(judged.rocks, lent);
+    if judged.fault != 0 {
+        return judged.fault;
+    }
+    if !room {
+        return 7;
+    }
+    0
+}
+
+// Reads the raster. Its rocks are entered only when nothing is left to refuse.
 fn read_raster(
     plain: bool,
     body: &[u8],
@@ -143,24 +158,16 @@ fn read_raster(
     ensures read { λ r. ⌜ RasterReads (formatOf plain) w h (now (body .entry)) (listOf (now (ids .entry)) (now (xs .entry)) (now (ys .entry))) (listOf (now (ids .exit)) (now (xs .exit)) (now (ys .exit))) r ⌝ }
 {
     let judged = judge(plain, body, w, h);
-    if judged.fault != 0 {
-        return Reading::Refused(judged.fault);
-    }
-    if !has_room(judged.rocks, ids.len()) {
-        return Reading::Refused(7);
+    let n = refusal(judged, ids.len());
+    if n != 0 {
+        return Reading::Refused(n);
     }
     fill(plain, body, w, h, ids, xs, ys);
     Reading::Map(w, h, judged.rocks)
 }
 
 // Reads what follows the letters of a format. "the raster begins right after that one blank byte".
-fn read_map(
-    src: &[u8],
-    plain: bool,
-    ids: &mut [u16],
-    xs: &mut [u16],
-    ys: &mut [u16],
-) -> Reading
+fn read_map(src: &[u8], plain: bool, ids: &mut [u16], xs: &mut [u16], ys: &mut [u16]) -> Reading
     requires { ⌜ MayReadMap (formatOf plain) (now src) (now ids) (now xs) (now ys) ⌝ }
     ensures same { λ r. ⌜ Parallel (now (ids .exit)) (now (xs .exit)) (now (ys .exit)) ⌝ }
     ensures read { λ r. ⌜ Reads (now (src .entry)) (listOf (now (ids .entry)) (now (xs .entry)) (now (ys .entry))) (listOf (now (ids .exit)) (now (xs .exit)) (now (ys .exit))) r ⌝ }

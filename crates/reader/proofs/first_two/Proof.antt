@@ -20,7 +20,8 @@ returns-2 c = same-letters raw _ (c .before .begins2 .ensures .0 (c .if2 .taken)
 
 returns-3 : tie.Need-returns-3
 returns-3 c =
-    letters-neither _ (answered-no (c .before .before .before .if1 .left) (c .before .before .before .before .begins .ensures .1)) (answered-no (c .if2 .left) (c .before .begins2 .ensures .1))
+    let e = c .before .before .before in
+    letters-neither _ (answered-no (e .if1 .left) (e .before .begins .ensures .1)) (answered-no (c .if2 .left) (c .before .begins2 .ensures .1))
 
 pub first-two-spec : {M : Type 1} → statement M
 first-two-spec = tie.close (tie.spec begins-requires returns begins-requires-2 returns-2 returns-3)

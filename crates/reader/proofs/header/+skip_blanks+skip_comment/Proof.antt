@@ -4,7 +4,6 @@ use Prim.Native.Nat.{ℕ, _-_, _<_}
 use native.Mathlib.Omega.{arith}
 use borrow.Author.Tests.{not-true, not-false}
 use lib.ListN.{length}
-use Rattle.mapfile.specs.Header.{at-return, at-feed}
 use Rattle.reader.proofs.Answers.{answered-no}
 use Rattle.reader.proofs.Skipping.{
   SkippingBlanks,
@@ -29,6 +28,7 @@ use Rattle.reader.proofs.header.skip_comment.Kinds as comment-kinds
 use Rattle.reader.proofs.header.+skip_blanks+skip_comment.Lts-skip_comment as comment-lts
 use Rattle.reader.proofs.header.gap_end.Reads as gap-end-reads
 use Rattle.reader.proofs.header.is_blank.Reads as is-blank-reads
+use Rattle.reader.proofs.header.is_line_end.Reads as is-line-end-reads
 use Rattle.reader.proofs.header.+skip_blanks+skip_comment.{statement}
 use Rattle.reader.proofs.header.+skip_blanks+skip_comment.Tie.{close}
 
@@ -63,7 +63,7 @@ abbrev blanks-calls : ℕ → blanks-lts.Claims
 blanks-calls t = (comment-below t, comment.Post, is-blank-reads.Asked, is-blank-reads.Learnt, gap-end-reads.Asked, gap-end-reads.Learnt)
 
 abbrev comment-calls : ℕ → comment-lts.Claims
-comment-calls t = (blanks-below t, blanks.Post)
+comment-calls t = (is-line-end-reads.Asked, is-line-end-reads.Learnt, blanks-below t, blanks.Post)
 
 abbrev blanks-inv : blanks-lts.InvT-loop
 blanks-inv src at seen i₀ any₀ i any = SkippingBlanks src at seen i any
@@ -108,7 +108,10 @@ module _ (t : ℕ) where
   blanks-returns-2 c =
       let i = c .before .before .before .before .before .before in
       let b = c .before .before in
-      blanks-stop (i .before .loop .inv) (c .gap-end .result) (i .loop-test .taken) (answered-no (not-true _ (c .before .if2 .taken)) (b .is-blank .ensures .1)) (b .before .before .if1 .left) (c .gap-end .ensures)
+      blanks-stop (i .before .loop .inv) (c .gap-end .result) (i .loop-test .taken)
+      (answered-no (not-true _ (c .before .if2 .taken)) (b .is-blank .ensures .1))
+      (b .before .before .if1 .left)
+      (c .gap-end .ensures)
 
   blanks-add-i : blanks-lts.Need-add-i (blanks-calls t) (blanks-at t) blanks.Post blanks-inv blanks-left
   blanks-add-i c = omega arith
@@ -130,8 +133,11 @@ module _ (t : ℕ) where
   comment-loop-holds : comment-lts.Need-loop-holds (comment-calls t) (comment-at t) comment.Post comment-inv comment-left
   comment-loop-holds c = comment-start _ _ _ (c .before .pre .1)
 
-  comment-shared-slice-read-if1 : comment-lts.Need-shared-slice-read-if1 (comment-calls t) (comment-at t) comment.Post comment-inv comment-left
-  comment-shared-slice-read-if1 c = omega arith
+  comment-shared-slice-read-is-line-end : comment-lts.Need-shared-slice-read-is-line-end (comment-calls t) (comment-at t) comment.Post comment-inv comment-left
+  comment-shared-slice-read-is-line-end c = omega arith
+
+  comment-is-line-end-requires : comment-lts.Need-is-line-end-requires (comment-calls t) (comment-at t) comment.Post comment-inv comment-left
+  comment-is-line-end-requires c κs = tt
 
   comment-add-skip-blanks : comment-lts.Need-add-skip-blanks (comment-calls t) (comment-at t) comment.Post comment-inv comment-left
   comment-add-skip-blanks c = omega arith
@@ -141,22 +147,10 @@ module _ (t : ℕ) where
 
   comment-returns : comment-lts.Need-returns (comment-calls t) (comment-at t) comment.Post comment-inv comment-left
   comment-returns c =
-      let l = c .before .before .before .before in
-      comment-end (l .loop .inv) (c .skip-blanks .result) (c .before .before .before .loop-test .taken) (at-return (c .before .if1 .taken)) (c .skip-blanks .ensures)
-
-  comment-shared-slice-read-if2 : comment-lts.Need-shared-slice-read-if2 (comment-calls t) (comment-at t) comment.Post comment-inv comment-left
-  comment-shared-slice-read-if2 c = omega arith
-
-  comment-add-skip-blanks-2 : comment-lts.Need-add-skip-blanks-2 (comment-calls t) (comment-at t) comment.Post comment-inv comment-left
-  comment-add-skip-blanks-2 c = omega arith
-
-  comment-skip-blanks-requires-2 : comment-lts.Need-skip-blanks-requires-2 (comment-calls t) (comment-at t) comment.Post comment-inv comment-left
-  comment-skip-blanks-requires-2 c κs = omega arith
-
-  comment-returns-2 : comment-lts.Need-returns-2 (comment-calls t) (comment-at t) comment.Post comment-inv comment-left
-  comment-returns-2 c =
-      let i = c .before .before .before .before .before in
-      comment-end (i .before .loop .inv) (c .skip-blanks2 .result) (i .loop-test .taken) (at-feed (c .before .if2 .taken)) (c .skip-blanks2 .ensures)
+      let b = c .before .before in
+      let i = b .before .before in
+      comment-end (i .before .loop .inv) (c .skip-blanks .result) (i .loop-test .taken) (b .is-line-end .ensures .0 (c .before .if1 .taken))
+      (c .skip-blanks .ensures)
 
   comment-add-i : comment-lts.Need-add-i (comment-calls t) (comment-at t) comment.Post comment-inv comment-left
   comment-add-i c = omega arith
@@ -166,11 +160,11 @@ module _ (t : ℕ) where
 
   comment-loop-again : comment-lts.Need-loop-again (comment-calls t) (comment-at t) comment.Post comment-inv comment-left
   comment-loop-again c =
-      let i = c .before .before .before .before in
-      comment-more (i .before .loop .inv) (i .loop-test .taken) (c .before .before .if1 .left) (c .if2 .left)
+      let i = c .before .before .before in
+      comment-more (i .before .loop .inv) (i .loop-test .taken) (answered-no (c .if1 .left) (c .before .is-line-end .ensures .1))
 
-  comment-returns-3 : comment-lts.Need-returns-3 (comment-calls t) (comment-at t) comment.Post comment-inv comment-left
-  comment-returns-3 c = comment-open (c .before .loop .inv) (c .loop-test .left)
+  comment-returns-2 : comment-lts.Need-returns-2 (comment-calls t) (comment-at t) comment.Post comment-inv comment-left
+  comment-returns-2 c = comment-open (c .before .loop .inv) (c .loop-test .left)
 
 pub +skip-blanks+skip-comment-spec : {M : Type 1} → statement M
 +skip-blanks+skip-comment-spec = close μ-blanks μ-comment (λ t. blanks-lts.spec (blanks-calls t)
@@ -199,15 +193,12 @@ pub +skip-blanks+skip-comment-spec : {M : Type 1} → statement M
     comment-inv
     comment-left
     (comment-loop-holds t)
-    (comment-shared-slice-read-if1 t)
+    (comment-shared-slice-read-is-line-end t)
+    (comment-is-line-end-requires t)
     (comment-add-skip-blanks t)
     (comment-skip-blanks-requires t)
     (comment-returns t)
-    (comment-shared-slice-read-if2 t)
-    (comment-add-skip-blanks-2 t)
-    (comment-skip-blanks-requires-2 t)
-    (comment-returns-2 t)
     (comment-add-i t)
     (comment-loop-less t)
     (comment-loop-again t)
-    (comment-returns-3 t)
+    (comment-returns-2 t)

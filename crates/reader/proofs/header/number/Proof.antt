@@ -41,7 +41,9 @@ numeral-end-requires c κs = tt
 returns : tie.Need-returns Inv-loop μ-loop
 returns c =
     let i = c .before .before .before .before in
-    numbering-stop (i .before .loop .inv) (c .numeral-end .result) (i .loop-test .taken) (answered-no (not-true _ (c .before .if1 .taken)) (c .before .before .is-digit .ensures .1)) (c .numeral-end .ensures)
+    numbering-stop (i .before .loop .inv) (c .numeral-end .result) (i .loop-test .taken)
+    (answered-no (not-true _ (c .before .if1 .taken)) (c .before .before .is-digit .ensures .1))
+    (c .numeral-end .ensures)
 
 -- The byte is a digit, once the first test has passed it.
 digit-there : (c : tie.Then2 Inv-loop μ-loop)

@@ -67,7 +67,9 @@ add-digits c =
 
 -- The byte is a digit 0 or 1, once the tests have passed it.
 bit-here : (c : tie.Else3 Inv-loop μ-loop)
-    → BitByte (getD (c .before .before .before .before .before .before .before .before .before .args .body .now) (c .before .before .before .before .before .before .before .loop .i) 0)
+    → BitByte
+    (getD (c .before .before .before .before .before .before .before .before .before .args .body .now)
+    (c .before .before .before .before .before .before .before .loop .i) 0)
 bit-here c = c .before .is-bit .ensures .0 (not-false _ (c .if3 .left))
 
 sub-rocks : tie.Need-sub-rocks Inv-loop μ-loop

@@ -60,7 +60,11 @@ loop-again c =
     let t = b .before in
     let l = t .before .before in
     let s = l .before .before .before .before .before in
-    fill-more (raw-room (s .pre)) (t .if1 .taken) (l .loop .inv) (raw-bit (s .pre) (t .if1 .taken) (l .loop .inv .in-x) (b .bit-at .ensures)) (e .enter-bit .ensures) (c .next .ensures) (e .enter-bit .kept .0)
+    fill-more (raw-room (s .pre)) (t .if1 .taken) (l .loop .inv)
+    (raw-bit (s .pre) (t .if1 .taken) (l .loop .inv .in-x) (b .bit-at .ensures))
+    (e .enter-bit .ensures)
+    (c .next .ensures)
+    (e .enter-bit .kept .0)
 
 same-length : tie.Need-same-length Inv-loop μ-loop
 same-length c = c .before .before .loop .inv .size

@@ -25,10 +25,14 @@ size-is : (h : ℕ) {r n b : ℕ} → r ≡ b → h * r ≤ n → n ≤ h * r �
 size-is h e p q = rw (← e) (omega arith)
 
 count-raw-requires : tie.Need-count-raw-requires
-count-raw-requires c κs = record { sides = c .before .before .before .before .pre; size = size-is _ (c .before .before .row-bytes .ensures) (c .before .if1 .left) (c .if2 .left) }
+count-raw-requires c κs =
+    let b = c .before .before in
+    record { sides = b .before .before .pre; size = size-is _ (b .row-bytes .ensures) (c .before .if1 .left) (c .if2 .left) }
 
 returns-3 : tie.Need-returns-3
-returns-3 c = raw-judged-good _ _ _ _ (size-is _ (c .before .before .before .row-bytes .ensures) (c .before .before .if1 .left) (c .before .if2 .left)) (c .count-raw .ensures)
+returns-3 c =
+    let b = c .before .before .before in
+    raw-judged-good _ _ _ _ (size-is _ (b .row-bytes .ensures) (c .before .before .if1 .left) (c .before .if2 .left)) (c .count-raw .ensures)
 
 pub judge-raw-spec : {M : Type 1} → statement M
 judge-raw-spec =
