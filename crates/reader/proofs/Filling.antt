@@ -6,7 +6,7 @@ use native.Mathlib.Omega.{arith}
 use lib.Arith.{digits-div, digits-mod}
 use lib.ListN.{length, getD, take, drop, take-append-drop}
 use lib.Seq.{take-all, length-take-le}
-use Rattle.field.specs.Map.{most-markers, Sides}
+use Rattle.field.specs.Map.{side, most-markers, Sides}
 use Rattle.markers.specs.Promise.{marker, listOf, Parallel}
 use Rattle.markers.specs.Laws.Slices.{listOf-length}
 use Rattle.mapfile.specs.File.{markersOf}
@@ -68,24 +68,24 @@ module _ {w h : ℕ} {bits ids₀ xs₀ ys₀ : List ℕ} (m : Room w h bits ids
           ones-append (take (placeOf w p + 1) bits) (drop (placeOf w p + 1) bits),
         )
 
-    pub fill-may : (bit : ℕ) → bit ≡ getD bits (placeOf w p) 0 → MayEnterBit ids xs ys n bit (p .x) (h - (p .row + 1))
-    fill-may bit e =
+    pub fill-may : (bit y : ℕ) → bit ≡ getD bits (placeOf w p) 0 → y < side → MayEnterBit ids xs ys n bit (p .x) y
+    fill-may bit y e low =
         record {
           parallel = k .parallel;
           room = λ z. omega (arith, left (λ q. z (e ∙ q)), m .room, k .size);
           few = λ z. omega (arith, left (λ q. z (e ∙ q)), m .few);
           in-x = omega (arith, k .in-x, m .sides .most-w);
-          in-y = omega (arith, m .sides .most-h, m .sides .some-h);
+          in-y = low;
         }
 
     pub fill-step : MayStep w p
     fill-step = record { in-x = k .in-x; few = omega (arith, m .sides .most-h) }
 
     -- One crossing further.
-    pub fill-more : {bit r : ℕ} {q : Place} {ids′ xs′ ys′ : List ℕ} → bit ≡ getD bits (placeOf w p) 0
-        → EntersBit ids xs ys n bit (p .x) (h - (p .row + 1)) ids′ xs′ ys′ r → Steps w p q → length ids′ ≡ length ids
+    pub fill-more : {bit y r : ℕ} {q : Place} {ids′ xs′ ys′ : List ℕ} → bit ≡ getD bits (placeOf w p) 0 → y ≡ h - (p .row + 1)
+        → EntersBit ids xs ys n bit (p .x) y ids′ xs′ ys′ r → Steps w p q → length ids′ ≡ length ids
         → FillingAt w h bits ids₀ xs₀ ys₀ r q ids′ xs′ ys′
-    fill-more {bit} {r} {q} {ids′} {xs′} {ys′} e t s size =
+    fill-more {bit} {y} {r} {q} {ids′} {xs′} {ys′} e north t s size =
         record {
           in-x = s .in-x;
           within = omega (arith, s .next, below, m .crossings);
@@ -98,13 +98,13 @@ module _ {w h : ℕ} {bits ids₀ xs₀ ys₀ : List ℕ} (m : Room w h bits ids
         long = length-take-le (placeOf w p) bits (omega (arith, below))
 
         next : Filling w h (take (placeOf w p) bits ++ bit ∷ []) (listOf ids₀ xs₀ ys₀) (countBit bit n)
-            (slotBit bit (listOf ids xs ys) n (marker (n + 1) (p .x) (h - (p .row + 1))))
+            (slotBit bit (listOf ids xs ys) n (marker (n + 1) (p .x) y))
         next =
-            filling-bit w h (take (placeOf w p) bits) (listOf ids₀ xs₀ ys₀) (listOf ids xs ys) n bit (p .x) (h - (p .row + 1))
+            filling-bit w h (take (placeOf w p) bits) (listOf ids₀ xs₀ ys₀) (listOf ids xs ys) n bit (p .x) y
             (omega (arith, m .are (placeOf w p), e))
             (λ z. omega (arith, left (λ o. z (e ∙ o)), m .room, listOf-length ids₀ xs₀ ys₀ (m .parallel)))
             (sym (ap (λ (i : ℕ). i % w) long ∙ digits-mod (p .row) (k .in-x)))
-            (sym (ap (λ (i : ℕ). h - (i / w + 1)) long ∙ ap (λ (i : ℕ). h - (i + 1)) (digits-div (p .row) (k .in-x))))
+            (north ∙ sym (ap (λ (i : ℕ). h - (i / w + 1)) long ∙ ap (λ (i : ℕ). h - (i + 1)) (digits-div (p .row) (k .in-x))))
             (k .filling)
 
   -- Past the last crossing all markers are made.

@@ -39,8 +39,9 @@ module _ (s : List ℕ) (at : ℕ) where
   pub blank-other : at < length s → ¬ Blank (getD s at 0) → lastBlank (drop at s) ≡ none
   blank-other l b = ap lastBlank (left-cons s at l) ∙ last-blank-other (drop (at + 1) s) b
 
-  pub blank-last : at < length s → Blank (getD s at 0) → lastBlank (drop at s) ≡ some (drop (at + 1) s)
-  blank-last l b = ap lastBlank (left-cons s at l) ∙ last-blank-there (drop (at + 1) s) b
+  -- The rest begins right after the one blank byte.
+  pub blank-last : (e : ℕ) → e ≡ at + 1 → at < length s → Blank (getD s at 0) → GapRead s (lastBlank (drop at s)) (Ends e)
+  blank-last e one l b = rw one (omega arith, ap lastBlank (left-cons s at l) ∙ last-blank-there (drop (at + 1) s) b)
 
 -- What an answer says, once it is known to be this one.
 module _ (s : List ℕ) where

@@ -133,9 +133,10 @@ fn has_room(rocks: usize, lent: usize) -> bool
 fn refusal(judged: Judged, lent: usize) -> u8
     ensures { λ r. ⌜ RasterRefusal judged lent r ⌝ }
 {
+    let fault = judged.fault;
     let room = has_room(judged.rocks, lent);
-    if judged.fault != 0 {
-        return judged.fault;
+    if fault != 0 {
+        return fault;
     }
     if !room {
         return 7;

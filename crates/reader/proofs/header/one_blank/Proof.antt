@@ -1,4 +1,5 @@
 -- `one_blank` meets its contract: the byte at the place is a blank, and the rest begins after it; or it is none, or there is no byte.
+use mathlib.Core.Path.{refl}
 use native.Mathlib.Omega.{arith}
 use borrow.Author.Tests.{not-true, not-false}
 use Rattle.reader.proofs.Answers.{answered-no}
@@ -27,7 +28,7 @@ add-t3 c = search needs
 returns-3 : tie.Need-returns-3
 returns-3 c =
     let a = c .before .before .before .before .before .args in
-    (omega arith, blank-last (a .src .now) (a .at) (omega arith) (c .before .is-blank .ensures .0 (not-false _ (c .if2 .left))))
+    blank-last (a .src .now) (a .at) _ refl (omega arith) (c .before .is-blank .ensures .0 (not-false _ (c .if2 .left)))
 
 pub one-blank-spec : {M : Type 1} → statement M
 one-blank-spec =

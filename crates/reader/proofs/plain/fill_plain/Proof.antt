@@ -1,4 +1,5 @@
 -- `fill_plain` meets its contract: the loop keeps FillingAt over the bits of the digits, with the place of the next digit.
+use mathlib.Core.Path.{refl}
 use Prim.Native.Nat.{_-_, _<_}
 use native.Mathlib.Omega.{arith}
 use lib.ListN.{length, getD}
@@ -63,7 +64,9 @@ enter-bit-requires c κs =
     let t = c .before .before .before .before in
     let l = t .before .before .before .before in
     let s = l .before .before .before .before .before in
-    fill-may (plain-room (s .pre)) (row-here t) (l .loop .inv .0) _ (passed-bit (t .before .before .before .loop-test .taken) (l .loop .inv .1) (bit-here t))
+    fill-may (plain-room (s .pre)) (row-here t) (l .loop .inv .0) _ _
+    (passed-bit (t .before .before .before .loop-test .taken) (l .loop .inv .1) (bit-here t))
+    (omega (arith, row-here t, s .pre .sides .most-h))
 
 next-requires : tie.Need-next-requires Inv-loop μ-loop
 next-requires c κs =
@@ -84,7 +87,7 @@ loop-again c =
     let l = i .before in
     let s = l .before .before .before .before .before in
     let b = passed-bit (i .loop-test .taken) (l .loop .inv .1) (bit-here t) in (
-      fill-more (plain-room (s .pre)) (row-here t) (l .loop .inv .0) b (e .enter-bit .ensures) (c .next .ensures) (e .enter-bit .kept .0),
+      fill-more (plain-room (s .pre)) (row-here t) (l .loop .inv .0) b refl (e .enter-bit .ensures) (c .next .ensures) (e .enter-bit .kept .0),
       passed-digit (i .loop-test .taken) (l .loop .inv .1) (bit-here t) (c .next .ensures),
     )
 

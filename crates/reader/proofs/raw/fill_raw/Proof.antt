@@ -1,4 +1,5 @@
 -- `fill_raw` meets its contract: the loop keeps FillingAt over the packed bits, and each turn passes one crossing more.
+use mathlib.Core.Path.{refl}
 use Prim.Native.Nat.{_*_, _-_}
 use native.Mathlib.Omega.{arith}
 use Rattle.mapfile.specs.RasterWorking.{rawBits}
@@ -35,7 +36,7 @@ enter-bit-requires c κs =
     let l = b .before .before .before in
     let s = l .before .before .before .before .before in
     let t = b .before .if1 .taken in
-    fill-may (raw-room (s .pre)) t (l .loop .inv) _ (raw-bit (s .pre) t (l .loop .inv .in-x) (b .bit-at .ensures))
+    fill-may (raw-room (s .pre)) t (l .loop .inv) _ _ (raw-bit (s .pre) t (l .loop .inv .in-x) (b .bit-at .ensures)) (omega (arith, t, s .pre .sides .most-h))
 
 next-requires : tie.Need-next-requires Inv-loop μ-loop
 next-requires c κs =
@@ -62,6 +63,7 @@ loop-again c =
     let s = l .before .before .before .before .before in
     fill-more (raw-room (s .pre)) (t .if1 .taken) (l .loop .inv)
     (raw-bit (s .pre) (t .if1 .taken) (l .loop .inv .in-x) (b .bit-at .ensures))
+    refl
     (e .enter-bit .ensures)
     (c .next .ensures)
     (e .enter-bit .kept .0)
