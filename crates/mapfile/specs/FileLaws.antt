@@ -1,20 +1,12 @@
 -- A file is one map at most, and has one fault at most; with a fault it is no map. Letters, header, sides and raster are each settled by the bytes.
-use mathlib.Core.Path.{_≡_, refl, sym, ap, subst, _∙_}
-use mathlib.Core.List.{List, [], _∷_, _++_}
+use mathlib.Core.Path.{_≡_, refl, sym, subst, _∙_}
+use mathlib.Core.List.{List, [], _∷_}
 use Prim.Native.Nat.{ℕ}
 use native.Mathlib.Omega.{arith}
 use Rattle.field.specs.Map.{Sides}
 use Rattle.mapfile.specs.Header.{Header}
 use Rattle.mapfile.specs.HeaderLaws.{header-one}
-use Rattle.mapfile.specs.Raster.{RawRaster, PlainRaster, RawFault, PlainFault}
-use Rattle.mapfile.specs.RasterLaws.{
-  raw-raster-one,
-  raw-fault-one,
-  raw-fault-no-raster,
-  plain-raster-one,
-  plain-fault-one,
-  plain-fault-no-raster,
-}
+use Rattle.mapfile.specs.RasterLaws.{raw-raster-one, raw-fault-one, raw-fault-no-raster, plain-raster-one, plain-fault-one, plain-fault-no-raster}
 use Rattle.mapfile.specs.File.{
   Format,
   plain,

@@ -1,9 +1,9 @@
 -- What is a header by the grammar the working accepts, with the same numbers and the same rest. A separator's items are skipped whole, since what
 -- follows it is a digit, and a number's digits are, since what follows it is a blank or a #.
-use mathlib.Core.Path.{_≡_, refl, sym, ap, subst, _∙_}
+use mathlib.Core.Path.{_≡_, refl, sym, ap, _∙_}
 use mathlib.Core.Bool.{Bool, true, false}
 use mathlib.Core.List.{List, [], _∷_, _++_, append-assoc}
-use mathlib.Core.Option.{Option, none, some}
+use mathlib.Core.Option.{some}
 use mathlib.Core.Logic.{_⊎_, inl, inr}
 use Prim.Native.Nat.{ℕ, zero, suc, _+_, _*_, _-_, _<_, _≤_}
 use native.Mathlib.Omega.{arith}
@@ -15,7 +15,6 @@ use Rattle.mapfile.specs.Header.{
   return,
   feed,
   LineEnd,
-  Comment,
   Items,
   no-items,
   blank-item,
@@ -34,13 +33,11 @@ use Rattle.mapfile.specs.HeaderWorking.{
   endItems,
   afterItems,
   afterComment,
-  items-none,
   items-hash,
   items-blank,
   items-stop,
   comment-ends,
   comment-goes-on,
-  Value,
   value,
   endNumber,
   numberFrom,
@@ -49,7 +46,6 @@ use Rattle.mapfile.specs.HeaderWorking.{
   number-stop,
   numberAfter,
   nextNumber,
-  lastBlank,
   last-blank-there,
   GivesNumbers,
 }
@@ -108,8 +104,8 @@ number-end (b ∷ l) f zero v s = absurd (omega arith)
 number-end (b ∷ l) f (suc n) v s = number-stop l (suc n) v f
 
 -- All digits are taken.
-pub number-taken : (d : List ℕ) (rest : List ℕ) (n v : ℕ) → ((k : ℕ) → k < length d → Digit (getD d k 0)) → 1 ≤ n + length d → n + length d ≤ most-digits
-    → NoDigitFirst rest → numberFrom (d ++ rest) n v ≡ value (valueFrom v d) rest
+pub number-taken : (d : List ℕ) (rest : List ℕ) (n v : ℕ) → ((k : ℕ) → k < length d → Digit (getD d k 0)) → 1 ≤ n + length d
+    → n + length d ≤ most-digits → NoDigitFirst rest → numberFrom (d ++ rest) n v ≡ value (valueFrom v d) rest
 unfolding valueFrom
 number-taken [] rest n v digits one few f = number-end rest f n v (omega arith)
 number-taken (b ∷ d) rest n v digits one few f =
@@ -134,7 +130,9 @@ numbers-first rest (next-number v s d k q n m p e) =
 pub next-complete : {v : ℕ} (s d rest : List ℕ) → Separator s → Number v d → NoDigitFirst rest → nextNumber (s ++ d ++ rest) ≡ value v rest
 unfolding nextNumber numberAfter
 next-complete {v} s d rest q n f =
-    ap numberAfter (ap (λ (l : List ℕ). afterItems l false) (append-assoc s d rest) ∙ items-skipped (q .items) (d ++ rest) (number-first d rest n) false (inr (q .some)))
+    ap numberAfter
+    (ap (λ (l : List ℕ). afterItems l false) (append-assoc s d rest)
+    ∙ items-skipped (q .items) (d ++ rest) (number-first d rest n) false (inr (q .some)))
     ∙ number-taken d rest 0 0 (n .digits) (omega (arith, n .some)) (omega (arith, n .few)) f
     ∙ ap (λ (u : ℕ). value u rest) (sym (n .value))
 

@@ -1,14 +1,13 @@
 -- A header is read in one way only. The working gives one answer, and it gives each header's numbers and rest: so two headers of the same bytes, with
 -- as many numbers, have the same numbers and the same rest.
-use mathlib.Core.Path.{_≡_, refl, sym, ap, subst, _∙_}
+use mathlib.Core.Path.{_≡_, refl, sym, subst, _∙_}
 use mathlib.Core.List.{List, [], _∷_}
-use mathlib.Core.Option.{Option, none, some}
-use Prim.Native.Nat.{ℕ, zero, suc}
+use mathlib.Core.Option.{some}
+use Prim.Native.Nat.{ℕ}
 use native.Mathlib.Omega.{arith}
 use lib.ListN.{length}
 use Rattle.mapfile.specs.Header.{Header}
-use Rattle.mapfile.specs.HeaderWorking.{value, nextNumber, lastBlank, GivesNumbers}
-use Rattle.mapfile.specs.HeaderSound.{header-sound}
+use Rattle.mapfile.specs.HeaderWorking.{value, GivesNumbers}
 use Rattle.mapfile.specs.HeaderComplete.{header-complete}
 
 pub gives-one : (vs us l rest other : List ℕ) → length vs ≡ length us → GivesNumbers vs l rest → GivesNumbers us l other → (vs ≡ us) × (rest ≡ other)

@@ -11,7 +11,6 @@ use lib.ListN.{length, getD}
 use Rattle.mapfile.specs.Header.{
   Blank,
   LineEnd,
-  Comment,
   Items,
   no-items,
   blank-item,
@@ -21,7 +20,6 @@ use Rattle.mapfile.specs.Header.{
   valueFrom,
   most-digits,
   Number,
-  Numbers,
   last-blank,
   next-number,
   Header,
@@ -40,7 +38,6 @@ use Rattle.mapfile.specs.HeaderWorking.{
   comment-none,
   comment-ends,
   comment-goes-on,
-  Value,
   value,
   no-value,
   endNumber,

@@ -1,17 +1,13 @@
 -- The markers of a file's bits: their number, their ids, and the crossings that they stand on. The k-th bit speaks of the crossing x = k % w in the
 -- row that stands k / w rows from the north, and rasterPlace is the way back.
-use mathlib.Core.Path.{_≡_, refl, sym, ap, ap₂, subst, _∙_}
+use mathlib.Core.Path.{_≡_, refl, ap, ap₂, _∙_}
 use mathlib.Core.List.{List, [], _∷_, _++_}
-use mathlib.Core.Logic.{_↔_}
-use Prim.Native.Nat.{ℕ, zero, suc, _+_, _*_, _-_, _/_, _%_, _<_, _≤_}
+use Prim.Native.Nat.{ℕ, zero, suc, _+_, _-_, _/_, _%_, _<_, _≤_}
 use native.Mathlib.Omega.{arith}
-use native.Mathlib.Nat.{mod-lt, div-add-mod', div-lt-iff-lt-mul, mul-le-mul-right}
-use lib.Arith.{digits-div, digits-mod}
 use lib.ListN.{length, getD}
 use Rattle.field.specs.declared.Marker.{Marker}
-use Rattle.field.specs.Map.{Sides, On}
-use Rattle.field.specs.Labels.{Rock, blank}
-use Rattle.mapfile.specs.File.{rasterPlace, FileRock, markersFrom, markersOf}
+use Rattle.field.specs.Labels.{blank}
+use Rattle.mapfile.specs.File.{markersFrom}
 
 -- How many bits are not 0.
 unfoldable pub ones : List ℕ → ℕ

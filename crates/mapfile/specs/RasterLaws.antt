@@ -1,12 +1,10 @@
 -- The bits of a raster are one, and so is the number of its fault; where there is a fault there is no raster.
-use mathlib.Core.Path.{_≡_, refl, sym, ap, subst, _∙_}
+use mathlib.Core.Path.{_≡_, refl, sym, ap, _∙_}
 use mathlib.Core.List.{List, [], _∷_, _++_, append-nil}
-use Prim.Native.Nat.{ℕ, zero, suc, _+_, _*_, _-_, _<_, _≤_}
+use Prim.Native.Nat.{ℕ, zero, suc, _*_, _-_, _≤_}
 use native.Mathlib.Omega.{arith}
-use lib.ListN.{length, getD}
-use Rattle.field.specs.Map.{On, at}
-use Rattle.field.specs.Workings.Sheet.{sheet, sheet-length, sheet-at, sheet-same}
-use Rattle.mapfile.specs.Header.{Blank}
+use lib.ListN.{length}
+use Rattle.field.specs.Workings.Sheet.{sheet-length, sheet-at, sheet-same}
 use Rattle.mapfile.specs.Raster.{
   rowBytes,
   packedBit,
@@ -17,7 +15,6 @@ use Rattle.mapfile.specs.Raster.{
   zero-digit,
   one-digit,
   PlainRaster,
-  PlainByte,
   RawFault,
   raw-short,
   raw-long,
@@ -88,7 +85,8 @@ pub plain-raster-one : {w h : ℕ} {l bits bits′ : List ℕ} → PlainRaster w
 plain-raster-one a b = digits-are (a .digits) ∙ sym (digits-are (b .digits))
 
 -- The verdict passes over digits and blanks.
-pub verdict-digits : {bits l : List ℕ} → Digits bits l → (rest : List ℕ) (n : ℕ) → length bits ≤ n → plainVerdict (l ++ rest) n ≡ plainVerdict rest (n - length bits)
+pub verdict-digits : {bits l : List ℕ} → Digits bits l → (rest : List ℕ) (n : ℕ) → length bits ≤ n
+    → plainVerdict (l ++ rest) n ≡ plainVerdict rest (n - length bits)
 verdict-digits (ended p q) rest n m = rw (p, q) (ap (plainVerdict rest) (omega arith))
 verdict-digits (skip {k} b s d e) rest n m = rw e (verdict-blank (k ++ rest) n s ∙ verdict-digits d rest n m)
 verdict-digits (zero-digit {rest = bs} {k} d p e) rest zero m = absurd (omega (arith, ap length p))

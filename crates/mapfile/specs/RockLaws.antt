@@ -1,20 +1,20 @@
 -- The markers of a map file stand exactly on its rocks, all on the map, with ids rising from 1: a marker for each crossing whose bit is 1.
-use mathlib.Core.Path.{_≡_, refl, sym, ap, ap₂, subst, _∙_}
-use mathlib.Core.List.{List, [], _∷_, _++_}
+use mathlib.Core.Path.{_≡_, sym, ap, ap₂, _∙_}
+use mathlib.Core.List.{List}
 use mathlib.Core.Logic.{_↔_}
 use Prim.Native.Nat.{ℕ, zero, suc, _+_, _*_, _-_, _/_, _%_, _<_, _≤_}
 use native.Mathlib.Omega.{arith}
-use native.Mathlib.Nat.{mod-lt, div-add-mod', div-lt-iff-lt-mul, mul-le-mul-right}
+use native.Mathlib.Nat.{mod-lt, div-add-mod', div-lt-iff-lt-mul}
 use native.Mathlib.Decide.{decLt}
 use lib.Arith.{digits-div, digits-mod}
 use lib.ListN.{length, getD, List·getD-eq-default}
 use Rattle.field.specs.declared.Marker.{Marker}
-use Rattle.field.specs.Map.{Sides, On, number}
+use Rattle.field.specs.Map.{Sides, On}
 use Rattle.field.specs.Labels.{Rock, blank}
 use Rattle.field.specs.Workings.Sheet.{number-lt, Crossing, crossing}
-use Rattle.mapfile.specs.Raster.{packedBit, RawRaster, Digits, ended, skip, zero-digit, one-digit, PlainRaster}
+use Rattle.mapfile.specs.Raster.{packedBit, RawRaster, Digits, ended, skip, zero-digit, one-digit}
 use Rattle.mapfile.specs.File.{Format, plain, raw, Raster, MapFile, rasterPlace, FileRock, markersOf}
-use Rattle.mapfile.specs.MarkerLaws.{ones, ones-le, markerAt, markers-length, OfBit, marker-of, HasMarker, of-marker}
+use Rattle.mapfile.specs.MarkerLaws.{ones, ones-le, markerAt, markers-length, marker-of, of-marker}
 
 -- Every number of the list is 0 or 1.
 abbrev pub AreBits : List ℕ → Type 0
@@ -88,8 +88,11 @@ module _ {w h : ℕ} (bits : List ℕ) (sides : Sides w h) (long : length bits �
   pub markers-few : length (markersOf w h bits) ≤ h * w
   markers-few = omega (arith, markers-count, ones-le bits)
 
-  -- The i-th marker, by its bit.
-  the-marker : (i : ℕ) → i < length (markersOf w h bits) → (k : ℕ) × (k < length bits) × (1 ≤ getD bits k 0) × (getD (markersOf w h bits) i blank ≡ markerAt w h (i + 1) k)
+  -- The i-th marker is that of the k-th bit, which is not 0.
+  abbrev TheMarker : ℕ → Type 0
+  TheMarker i = (k : ℕ) × (k < length bits) × (1 ≤ getD bits k 0) × (getD (markersOf w h bits) i blank ≡ markerAt w h (i + 1) k)
+
+  the-marker : (i : ℕ) → i < length (markersOf w h bits) → TheMarker i
   unfolding markersOf
   the-marker i l =
       let m = marker-of w h 1 0 bits i (omega (arith, markers-count)) in
@@ -108,8 +111,7 @@ module _ {w h : ℕ} (bits : List ℕ) (sides : Sides w h) (long : length bits �
   rock-file : AreBits bits → (x y : ℕ) → Rock (markersOf w h bits) x y → FileRock w h bits x y
   rock-file are x y r = found (the-marker (r .slot) (r .in-use))
     where
-      found : (k : ℕ) × (k < length bits) × (1 ≤ getD bits k 0) × (getD (markersOf w h bits) (r .slot) blank ≡ markerAt w h (r .slot + 1) k)
-          → FileRock w h bits x y
+      found : TheMarker (r .slot) → FileRock w h bits x y
       found m =
           let a : m .0 % w ≡ x = sym (ap (λ (n : Marker). n .x) (m .3)) ∙ r .x-is in
           let b : h - (m .0 / w + 1) ≡ y = sym (ap (λ (n : Marker). n .y) (m .3)) ∙ r .y-is in

@@ -1,8 +1,8 @@
 -- The marker of one bit entered: the same slot set in the three slices is that slot set in the list, and after it the list begins with the markers
 -- of one bit more.
-use mathlib.Core.Path.{_≡_, refl, sym, ap, ap₂, _∙_}
+use mathlib.Core.Path.{_≡_, refl, sym, ap, _∙_}
 use mathlib.Core.List.{List, [], _∷_, _++_, append-assoc, append-nil}
-use Prim.Native.Nat.{ℕ, zero, suc, _+_, _*_, _-_, _/_, _%_, _<_, _≤_}
+use Prim.Native.Nat.{ℕ, zero, suc, _+_, _-_, _/_, _%_, _<_, _≤_}
 use native.Mathlib.Omega.{arith}
 use native.Mathlib.Numerals.{add-one}
 use lib.ListN.{length, getD, drop, set, length-set}
@@ -13,7 +13,7 @@ use Rattle.markers.specs.Promise.{marker, listOf, Parallel}
 use Rattle.markers.specs.Laws.Slices.{marker-same}
 use Rattle.mapfile.specs.File.{markersFrom, markersOf}
 use Rattle.mapfile.specs.MarkerLaws.{ones, ones-snoc, markerAt, markers-length, markers-append}
-use Rattle.reader.specs.Parts.{slotBit, countBit, EntersBit}
+use Rattle.reader.specs.RasterParts.{slotBit, countBit, EntersBit}
 
 pub listOf-set : (ids xs ys : List ℕ) (n i x y : ℕ) → listOf (set ids n i) (set xs n x) (set ys n y) ≡ set (listOf ids xs ys) n (marker i x y)
 unfolding listOf

@@ -1,10 +1,10 @@
 -- A raster's rocks being entered, crossing by crossing, in either format: after the k-th bit the list holds the markers of the first k bits.
-use mathlib.Core.Path.{_≡_, refl, sym, ap, subst, _∙_}
+use mathlib.Core.Path.{_≡_, refl, sym, ap, _∙_}
 use mathlib.Core.List.{List, [], _∷_, _++_}
-use Prim.Native.Nat.{ℕ, zero, suc, _+_, _*_, _-_, _/_, _%_, _<_, _≤_}
+use Prim.Native.Nat.{ℕ, _+_, _*_, _-_, _/_, _%_, _<_, _≤_}
 use native.Mathlib.Omega.{arith}
 use lib.Arith.{digits-div, digits-mod}
-use lib.ListN.{length, getD, take, drop, length-take, take-append-drop}
+use lib.ListN.{length, getD, take, drop, take-append-drop}
 use lib.Seq.{take-all, length-take-le}
 use Rattle.field.specs.Map.{side, most-markers, Sides}
 use Rattle.markers.specs.Promise.{marker, listOf, Parallel}
@@ -12,9 +12,9 @@ use Rattle.markers.specs.Laws.Slices.{listOf-length}
 use Rattle.mapfile.specs.File.{markersOf}
 use Rattle.mapfile.specs.MarkerLaws.{ones, ones-append, ones-snoc}
 use Rattle.mapfile.specs.RockLaws.{AreBits}
-use Rattle.reader.specs.Parts.{placeOf, MayStep, Steps, MayEnterBit, slotBit, countBit, EntersBit}
-use Rattle.reader.specs.declared.Place.{Place}
-use Rattle.reader.proofs.Rows.{place-below, rows-end, take-next}
+use Rattle.reader.specs.RasterParts.{placeOf, MayStep, Steps, MayEnterBit, slotBit, countBit, EntersBit}
+use Rattle.reader.specs.declared.raster.Place.{Place}
+use Rattle.reader.proofs.Rows.{place-below, take-next}
 use Rattle.reader.proofs.Entering.{Filling, filling-start, filling-bit}
 
 -- There is a slot for each of the bits.
@@ -68,24 +68,24 @@ module _ {w h : ℕ} {bits ids₀ xs₀ ys₀ : List ℕ} (m : Room w h bits ids
           ones-append (take (placeOf w p + 1) bits) (drop (placeOf w p + 1) bits),
         )
 
-    pub fill-may : (bit : ℕ) → bit ≡ getD bits (placeOf w p) 0 → MayEnterBit ids xs ys n bit (p .x) (h - (p .row + 1))
-    fill-may bit e =
+    pub fill-may : (bit y : ℕ) → bit ≡ getD bits (placeOf w p) 0 → y < side → MayEnterBit ids xs ys n bit (p .x) y
+    fill-may bit y e low =
         record {
           parallel = k .parallel;
           room = λ z. omega (arith, left (λ q. z (e ∙ q)), m .room, k .size);
           few = λ z. omega (arith, left (λ q. z (e ∙ q)), m .few);
           in-x = omega (arith, k .in-x, m .sides .most-w);
-          in-y = omega (arith, m .sides .most-h, m .sides .some-h);
+          in-y = low;
         }
 
     pub fill-step : MayStep w p
     fill-step = record { in-x = k .in-x; few = omega (arith, m .sides .most-h) }
 
     -- One crossing further.
-    pub fill-more : {bit r : ℕ} {q : Place} {ids′ xs′ ys′ : List ℕ} → bit ≡ getD bits (placeOf w p) 0
-        → EntersBit ids xs ys n bit (p .x) (h - (p .row + 1)) ids′ xs′ ys′ r → Steps w p q → length ids′ ≡ length ids
+    pub fill-more : {bit y r : ℕ} {q : Place} {ids′ xs′ ys′ : List ℕ} → bit ≡ getD bits (placeOf w p) 0 → y ≡ h - (p .row + 1)
+        → EntersBit ids xs ys n bit (p .x) y ids′ xs′ ys′ r → Steps w p q → length ids′ ≡ length ids
         → FillingAt w h bits ids₀ xs₀ ys₀ r q ids′ xs′ ys′
-    fill-more {bit} {r} {q} {ids′} {xs′} {ys′} e t s size =
+    fill-more {bit} {y} {r} {q} {ids′} {xs′} {ys′} e north t s size =
         record {
           in-x = s .in-x;
           within = omega (arith, s .next, below, m .crossings);
@@ -98,13 +98,13 @@ module _ {w h : ℕ} {bits ids₀ xs₀ ys₀ : List ℕ} (m : Room w h bits ids
         long = length-take-le (placeOf w p) bits (omega (arith, below))
 
         next : Filling w h (take (placeOf w p) bits ++ bit ∷ []) (listOf ids₀ xs₀ ys₀) (countBit bit n)
-            (slotBit bit (listOf ids xs ys) n (marker (n + 1) (p .x) (h - (p .row + 1))))
+            (slotBit bit (listOf ids xs ys) n (marker (n + 1) (p .x) y))
         next =
-            filling-bit w h (take (placeOf w p) bits) (listOf ids₀ xs₀ ys₀) (listOf ids xs ys) n bit (p .x) (h - (p .row + 1))
+            filling-bit w h (take (placeOf w p) bits) (listOf ids₀ xs₀ ys₀) (listOf ids xs ys) n bit (p .x) y
             (omega (arith, m .are (placeOf w p), e))
             (λ z. omega (arith, left (λ o. z (e ∙ o)), m .room, listOf-length ids₀ xs₀ ys₀ (m .parallel)))
             (sym (ap (λ (i : ℕ). i % w) long ∙ digits-mod (p .row) (k .in-x)))
-            (sym (ap (λ (i : ℕ). h - (i / w + 1)) long ∙ ap (λ (i : ℕ). h - (i + 1)) (digits-div (p .row) (k .in-x))))
+            (north ∙ sym (ap (λ (i : ℕ). h - (i / w + 1)) long ∙ ap (λ (i : ℕ). h - (i + 1)) (digits-div (p .row) (k .in-x))))
             (k .filling)
 
   -- Past the last crossing all markers are made.
@@ -114,4 +114,7 @@ module _ {w h : ℕ} {bits ids₀ xs₀ ys₀ : List ℕ} (m : Room w h bits ids
     where
       last : {done : List ℕ} → done ≡ bits → Filling w h done (listOf ids₀ xs₀ ys₀) n (listOf ids xs ys)
           → listOf ids xs ys ≡ markersOf w h bits ++ drop (ones bits) (listOf ids₀ xs₀ ys₀)
-      last {done} q f = f .slots ∙ ap (λ (i : ℕ). markersOf w h done ++ drop i (listOf ids₀ xs₀ ys₀)) (f .made) ∙ ap (λ (d : List ℕ). markersOf w h d ++ drop (ones d) (listOf ids₀ xs₀ ys₀)) q
+      last {done} q f =
+          f .slots
+          ∙ ap (λ (i : ℕ). markersOf w h done ++ drop i (listOf ids₀ xs₀ ys₀)) (f .made)
+          ∙ ap (λ (d : List ℕ). markersOf w h d ++ drop (ones d) (listOf ids₀ xs₀ ys₀)) q

@@ -1,19 +1,19 @@
 -- A P1 raster's rocks being entered: the bits passed are those of the digits among the bytes passed.
-use mathlib.Core.Path.{_≡_, refl, sym, ap, subst, _∙_}
+use mathlib.Core.Path.{_≡_, sym, ap, subst, _∙_}
 use mathlib.Core.List.{List, [], _∷_, _++_}
 use Prim.Native.Nat.{ℕ, _+_, _*_, _-_, _<_, _≤_}
 use native.Mathlib.Omega.{arith}
 use lib.ListN.{length, getD, take, drop, length-append, take-append-drop}
 use lib.Seq.{take-all, getD-at}
-use Rattle.markers.specs.Promise.{listOf, Parallel}
+use Rattle.markers.specs.Promise.{listOf}
 use Rattle.mapfile.specs.Raster.{PlainRaster}
 use Rattle.mapfile.specs.RasterWorking.{digitsOf, digits-of-none, digits-of-zero, digits-of-one, digits-of-other, digits-of-append}
 use Rattle.mapfile.specs.RasterLaws.{digits-are}
 use Rattle.mapfile.specs.File.{plain, markersOf}
 use Rattle.mapfile.specs.MarkerLaws.{ones}
 use Rattle.mapfile.specs.RockLaws.{raster-bits, markers-count}
-use Rattle.reader.specs.Parts.{placeOf, MayFill, Fills, BitByte, zero-byte, one-byte, Steps, EntersBit}
-use Rattle.reader.specs.declared.Place.{Place}
+use Rattle.reader.specs.RasterParts.{placeOf, MayFill, Fills, BitByte, zero-byte, one-byte, Steps}
+use Rattle.reader.specs.declared.raster.Place.{Place}
 use Rattle.reader.proofs.Rows.{row-below, take-next}
 use Rattle.reader.proofs.Skipping.{left-cons}
 use Rattle.reader.proofs.Filling.{Room, FillingAt, fill-end}

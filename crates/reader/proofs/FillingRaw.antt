@@ -1,18 +1,18 @@
 -- A P4 raster's rocks being entered: its bits are the packed ones, each read where it stands.
-use mathlib.Core.Path.{_≡_, refl, sym, ap, subst, _∙_}
+use mathlib.Core.Path.{_≡_, sym, ap, _∙_}
 use mathlib.Core.List.{List, _++_}
-use Prim.Native.Nat.{ℕ, _+_, _*_, _<_, _≤_}
+use Prim.Native.Nat.{ℕ, _<_, _≤_}
 use native.Mathlib.Omega.{arith}
 use lib.ListN.{length, getD, drop}
-use Rattle.markers.specs.Promise.{listOf, Parallel}
+use Rattle.markers.specs.Promise.{listOf}
 use Rattle.mapfile.specs.Raster.{packedBit, RawRaster}
 use Rattle.mapfile.specs.RasterWorking.{rawBits}
 use Rattle.mapfile.specs.RasterLaws.{raw-raster, raw-raster-one}
 use Rattle.mapfile.specs.File.{raw, markersOf}
 use Rattle.mapfile.specs.MarkerLaws.{ones}
 use Rattle.mapfile.specs.RockLaws.{raster-bits, markers-count}
-use Rattle.reader.specs.Parts.{placeOf, MayLook, MayFill, Fills}
-use Rattle.reader.specs.declared.Place.{Place}
+use Rattle.reader.specs.RasterParts.{placeOf, MayLook, MayFill, Fills}
+use Rattle.reader.specs.declared.raster.Place.{Place}
 use Rattle.reader.proofs.Rows.{rows-end, byte-below}
 use Rattle.reader.proofs.Filling.{Room, FillingAt, fill-end}
 

@@ -1,11 +1,11 @@
 -- The first two bytes and the formats' letters: the bytes begin with a format's letters exactly when the first two are the same as those.
-use mathlib.Core.Path.{_≡_, refl, ap, subst}
-use mathlib.Core.List.{List, [], _∷_, _++_}
+use mathlib.Core.Path.{_≡_, refl, subst}
+use mathlib.Core.List.{List, [], _∷_}
 use Prim.Native.Nat.{ℕ, _≤_}
 use native.Mathlib.Omega.{arith}
-use lib.ListN.{length, getD, drop}
+use lib.ListN.{length, drop}
 use Rattle.mapfile.specs.File.{Format, plain, raw, Letters, lettersOf}
-use Rattle.reader.specs.Parts.{SameTwo, LettersRead}
+use Rattle.reader.specs.HeaderParts.{SameTwo, LettersRead}
 use Rattle.reader.specs.declared.Letters.{Letters as LettersFound}
 use Rattle.reader.specs.declared.Letters.the-variants.{Plain, Raw, Neither}
 

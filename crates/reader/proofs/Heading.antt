@@ -1,5 +1,5 @@
 -- The header's parts put together: a number after a separator, and the header of two such numbers and the last blank.
-use mathlib.Core.Path.{_≡_, refl, sym, ap, subst, _∙_}
+use mathlib.Core.Path.{_≡_, sym, ap, subst, _∙_}
 use mathlib.Core.Bool.{false}
 use mathlib.Core.List.{List, [], _∷_}
 use mathlib.Core.Option.{Option, none, some}
@@ -23,13 +23,13 @@ use Rattle.mapfile.specs.HeaderWorking.{
 }
 use Rattle.mapfile.specs.HeaderSound.{header-sound}
 use Rattle.mapfile.specs.HeaderComplete.{header-complete}
-use Rattle.reader.specs.Parts.{GapRead, NumeralRead, HeadRead}
-use Rattle.reader.specs.declared.Gap.{Gap}
-use Rattle.reader.specs.declared.Gap.the-variants.{Ends, Missing}
-use Rattle.reader.specs.declared.Numeral.{Numeral}
-use Rattle.reader.specs.declared.Numeral.the-variants.{Value as NumeralValue, Missing as NumeralMissing}
-use Rattle.reader.specs.declared.Head.{Head}
-use Rattle.reader.specs.declared.Head.the-variants.{Sides as HeadSides, Missing as HeadMissing}
+use Rattle.reader.specs.HeaderParts.{GapRead, NumeralRead, HeadRead}
+use Rattle.reader.specs.declared.header.Gap.{Gap}
+use Rattle.reader.specs.declared.header.Gap.the-variants.{Ends, Missing}
+use Rattle.reader.specs.declared.header.Numeral.{Numeral}
+use Rattle.reader.specs.declared.header.Numeral.the-variants.{Value as NumeralValue, Missing as NumeralMissing}
+use Rattle.reader.specs.declared.header.Head.{Head}
+use Rattle.reader.specs.declared.header.Head.the-variants.{Sides as HeadSides, Missing as HeadMissing}
 use Rattle.reader.proofs.Skipping.{left-cons}
 
 module _ (s : List ℕ) (at : ℕ) where
@@ -39,8 +39,9 @@ module _ (s : List ℕ) (at : ℕ) where
   pub blank-other : at < length s → ¬ Blank (getD s at 0) → lastBlank (drop at s) ≡ none
   blank-other l b = ap lastBlank (left-cons s at l) ∙ last-blank-other (drop (at + 1) s) b
 
-  pub blank-last : at < length s → Blank (getD s at 0) → lastBlank (drop at s) ≡ some (drop (at + 1) s)
-  blank-last l b = ap lastBlank (left-cons s at l) ∙ last-blank-there (drop (at + 1) s) b
+  -- The rest begins right after the one blank byte.
+  pub blank-last : (e : ℕ) → e ≡ at + 1 → at < length s → Blank (getD s at 0) → GapRead s (lastBlank (drop at s)) (Ends e)
+  blank-last e one l b = rw one (omega arith, ap lastBlank (left-cons s at l) ∙ last-blank-there (drop (at + 1) s) b)
 
 -- What an answer says, once it is known to be this one.
 module _ (s : List ℕ) where
@@ -66,7 +67,8 @@ unfolding nextNumber numberAfter
 next-none l e = ap numberAfter e
 
 -- A header: its two numbers and the last blank. Without one of the three there is none.
-pub head-sides : (l m n rest : List ℕ) (w h : ℕ) → nextNumber l ≡ value w m → nextNumber m ≡ value h n → lastBlank n ≡ some rest → Header (w ∷ h ∷ []) l rest
+pub head-sides : (l m n rest : List ℕ) (w h : ℕ) → nextNumber l ≡ value w m → nextNumber m ≡ value h n → lastBlank n ≡ some rest
+    → Header (w ∷ h ∷ []) l rest
 unfolding GivesNumbers
 head-sides l m n rest w h p q r = header-sound (w ∷ h ∷ []) l rest (m, p, (n, q, r))
 
@@ -80,7 +82,8 @@ pub no-width : (l : List ℕ) → nextNumber l ≡ no-value → (w h : ℕ) (bod
 unfolding GivesNumbers
 no-width l p w h body k = let g = header-complete k in no-value-some (sym p ∙ g .1)
 
-pub no-height : (l m : List ℕ) (u : ℕ) → nextNumber l ≡ value u m → nextNumber m ≡ no-value → (w h : ℕ) (body : List ℕ) → ¬ Header (w ∷ h ∷ []) l body
+pub no-height : (l m : List ℕ) (u : ℕ) → nextNumber l ≡ value u m → nextNumber m ≡ no-value → (w h : ℕ) (body : List ℕ)
+    → ¬ Header (w ∷ h ∷ []) l body
 unfolding GivesNumbers
 no-height l m u p q w h body k =
     let g = header-complete k in

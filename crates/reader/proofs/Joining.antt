@@ -10,7 +10,7 @@ use lib.Seq.{take-all}
 use Rattle.field.specs.declared.Marker.{Marker}
 use Rattle.field.specs.Map.{Sides, most-markers}
 use Rattle.field.specs.Refusals.{no-slot, bad-size, bad-letters, bad-header}
-use Rattle.markers.specs.Promise.{listOf, Parallel}
+use Rattle.markers.specs.Promise.{listOf}
 use Rattle.markers.specs.Laws.Slices.{listOf-length}
 use Rattle.mapfile.specs.Header.{Header}
 use Rattle.mapfile.specs.File.{
@@ -28,19 +28,8 @@ use Rattle.mapfile.specs.File.{
   NoSlot,
 }
 use Rattle.reader.specs.Promise.{Taken, Turned, Reads}
-use Rattle.reader.specs.Parts.{
-  RasterOf,
-  JudgedAs,
-  HasRoom,
-  MayFill,
-  Fills,
-  MayReadRaster,
-  RasterTaken,
-  RasterOver,
-  RasterTurned,
-  RasterReads,
-}
-use Rattle.reader.specs.declared.Judged.{Judged}
+use Rattle.reader.specs.RasterParts.{RasterOf, JudgedAs, HasRoom, RasterRefusal, at-fault, at-slots, at-none, MayFill, Fills, MayReadRaster, RasterTaken, RasterOver, RasterTurned, RasterReads}
+use Rattle.reader.specs.declared.raster.Judged.{Judged}
 use Rattle.reader.specs.declared.Reading.{Reading}
 use Rattle.reader.specs.declared.Reading.the-variants.{Map, Refused}
 
@@ -49,19 +38,13 @@ module _ (f : Format) (w h : ℕ) (body ids xs ys : List ℕ) (m : MayReadRaster
   long : length (listOf ids xs ys) ≡ length ids
   long = listOf-length ids xs ys (m .parallel)
 
-  pub raster-faulty : ¬ (j .fault ≡ 0) → RasterTurned f w h body (listOf ids xs ys) (j .fault) (listOf ids xs ys)
-  raster-faulty n = record { fault = inl (k .faulty n); same = refl }
-
   module _ (good : j .fault ≡ 0) where
     of : RasterOf f w h body (j .rocks)
     of = k .good good
 
-    pub raster-over : ¬ HasRoom (j .rocks) (length ids) → RasterTurned f w h body (listOf ids xs ys) no-slot (listOf ids xs ys)
+    raster-over : ¬ HasRoom (j .rocks) (length ids) → RasterOver f w h body (length (listOf ids xs ys))
     raster-over n =
-        record {
-          fault = inr (record { bits = of .bits; raster = of .raster; many = over (decLe (j .rocks) (length ids)) (decLe (j .rocks) most-markers) }, refl);
-          same = refl;
-        }
+        record { bits = of .bits; raster = of .raster; many = over (decLe (j .rocks) (length ids)) (decLe (j .rocks) most-markers) }
       where
         over : Dec (j .rocks ≤ length ids) → Dec (j .rocks ≤ most-markers)
             → (length (listOf ids xs ys) < length (markersOf w h (of .bits))) ⊎ (most-markers < length (markersOf w h (of .bits)))
@@ -95,6 +78,18 @@ module _ (f : Format) (w h : ℕ) (body ids xs ys : List ℕ) (m : MayReadRaster
                 t .slots (of .bits) (of .raster)
                 ∙ ap (λ (i : ℕ). markersOf w h (of .bits) ++ drop i (listOf ids xs ys)) (sym (of .counted));
           }
+
+  -- A refusal is the raster's fault, or 7 where its rocks find no slot.
+  pub raster-turned : {n : ℕ} → RasterRefusal j (length ids) n → ¬ (n ≡ 0) → RasterTurned f w h body (listOf ids xs ys) n (listOf ids xs ys)
+  raster-turned (at-fault p e) z = record { fault = inl (subst (RasterFault f w h body) (sym e) (k .faulty p)); same = refl }
+  raster-turned (at-slots p q e) z = record { fault = inr (raster-over p q, e); same = refl }
+  raster-turned (at-none p q e) z = absurd (z e)
+
+-- No refusal: the raster is good, and its rocks find a slot each.
+pub raster-fine : {j : Judged} {lent n : ℕ} → RasterRefusal j lent n → n ≡ 0 → (j .fault ≡ 0) × HasRoom (j .rocks) lent
+raster-fine (at-fault p e) z = absurd (p (sym e ∙ z))
+raster-fine (at-slots p q e) z = absurd (omega arith)
+raster-fine (at-none p q e) z = (p, q)
 
 -- The slice from the raster's first byte on is what follows the header.
 pub part-is : (s : List ℕ) (e : ℕ) → take (length s - e) (drop e s) ≡ drop e s

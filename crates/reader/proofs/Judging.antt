@@ -1,17 +1,16 @@
 -- Rasters judged: a P4 raster by its length alone; a P1 raster byte by byte, where the bytes passed are blanks and digits.
-use mathlib.Core.Path.{_≡_, refl, sym, ap, subst, _∙_}
-use mathlib.Core.List.{List, [], _∷_, _++_}
-use Prim.Native.Nat.{ℕ, _+_, _*_, _-_, _<_, _≤_}
+use mathlib.Core.Path.{_≡_, refl, sym, _∙_}
+use mathlib.Core.List.{List}
+use Prim.Native.Nat.{ℕ, _*_, _<_}
 use native.Mathlib.Omega.{arith}
-use lib.ListN.{length, getD, take}
-use Rattle.field.specs.Map.{Sides}
+use lib.ListN.{length}
 use Rattle.mapfile.specs.Raster.{rowBytes, raw-short, raw-long}
 use Rattle.mapfile.specs.RasterWorking.{rawBits}
 use Rattle.mapfile.specs.RasterLaws.{raw-raster}
-use Rattle.mapfile.specs.File.{plain, raw, markersOf}
+use Rattle.mapfile.specs.File.{raw, markersOf}
 use Rattle.mapfile.specs.MarkerLaws.{ones, markers-length}
-use Rattle.reader.specs.Parts.{RasterOf, JudgedAs}
-use Rattle.reader.specs.declared.Judged.{Judged}
+use Rattle.reader.specs.RasterParts.{JudgedAs}
+use Rattle.reader.specs.declared.raster.Judged.{Judged}
 
 abbrev pub judged : ℕ → ℕ → Judged
 judged n rocks = record { fault = n; rocks = rocks }

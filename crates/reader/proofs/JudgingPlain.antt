@@ -13,12 +13,10 @@ use Rattle.mapfile.specs.Raster.{
   skip,
   zero-digit,
   one-digit,
-  PlainRaster,
   PlainByte,
   is-blank,
   is-zero,
   is-one,
-  PlainFault,
   plain-foreign,
   plain-short,
   plain-long,
@@ -26,7 +24,7 @@ use Rattle.mapfile.specs.Raster.{
 use Rattle.mapfile.specs.RasterLaws.{digits-append}
 use Rattle.mapfile.specs.File.{plain}
 use Rattle.mapfile.specs.MarkerLaws.{ones, ones-le, ones-snoc}
-use Rattle.reader.specs.Parts.{BitByte, zero-byte, one-byte, RasterOf, JudgedAs}
+use Rattle.reader.specs.RasterParts.{BitByte, zero-byte, one-byte, JudgedAs}
 use Rattle.reader.proofs.Limits.{crossings-few}
 use Rattle.reader.proofs.Rows.{take-next}
 use Rattle.reader.proofs.Skipping.{left-cons}

@@ -1,15 +1,15 @@
 -- What the loop over a number's digits keeps true: after each digit, the digits left lead to the same number. So far there are as many digits as
 -- bytes passed, and their value is below as high a power of ten.
-use mathlib.Core.Path.{_≡_, refl, sym, ap, ap₂, _∙_}
-use mathlib.Core.List.{List, [], _∷_}
+use mathlib.Core.Path.{_≡_, sym, ap, _∙_}
+use mathlib.Core.List.{List}
 use Prim.Native.Nat.{ℕ, zero, suc, _+_, _*_, _-_, _^_, _<_, _≤_}
 use native.Mathlib.Omega.{arith}
 use native.Mathlib.Nat.{pow-suc, pow-le-pow-right}
 use lib.ListN.{length, getD, drop, drop-of-length-le}
 use Rattle.mapfile.specs.Header.{Digit, most-digits}
-use Rattle.mapfile.specs.HeaderWorking.{Value, value, no-value, endNumber, numberFrom, number-none, number-digit, number-many, number-stop}
-use Rattle.reader.specs.Parts.{NumeralRead, numeralEnd}
-use Rattle.reader.specs.declared.Numeral.{Numeral}
+use Rattle.mapfile.specs.HeaderWorking.{no-value, endNumber, numberFrom, number-none, number-digit, number-many, number-stop}
+use Rattle.reader.specs.HeaderParts.{NumeralRead, numeralEnd}
+use Rattle.reader.specs.declared.header.Numeral.{Numeral}
 use Rattle.reader.proofs.Skipping.{left-cons}
 
 pub record Numbering (s : List ℕ) (at v i : ℕ) : Type 0 where

@@ -1,14 +1,13 @@
 -- Crossings in raster order: the crossing in column x of the row that stands `row` rows from the north is the (row * w + x)-th.
-use mathlib.Core.Path.{_≡_, refl, sym, ap, _∙_}
+use mathlib.Core.Path.{_≡_}
 use mathlib.Core.List.{List, [], _∷_, _++_}
-use Prim.Native.Nat.{ℕ, suc, _+_, _*_, _-_, _/_, _%_, _<_, _≤_}
+use Prim.Native.Nat.{ℕ, _+_, _*_, _/_, _<_, _≤_}
 use native.Mathlib.Omega.{arith}
 use native.Mathlib.Nat.{mul-le-mul-right}
 use native.Mathlib.Decide.{decLt}
 use native.Mathlib.Numerals.{add-one}
 use lib.ListN.{length, getD, take}
 use lib.Seq.{take-suc}
-use Rattle.field.specs.Map.{Sides}
 use Rattle.field.specs.Workings.Sheet.{number-lt}
 use Rattle.mapfile.specs.Raster.{rowBytes}
 

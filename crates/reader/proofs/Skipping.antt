@@ -1,14 +1,14 @@
 -- What the two skippers keep true: after each byte that is passed, what is left leads to the same end of the separator.
 use mathlib.Core.Path.{_≡_, refl, sym, ap, _∙_}
 use mathlib.Core.Bool.{Bool, true, false}
-use mathlib.Core.List.{List, [], _∷_}
-use mathlib.Core.Option.{Option, none, some}
+use mathlib.Core.List.{List, _∷_}
+use mathlib.Core.Option.{none}
 use Prim.Native.Nat.{ℕ, _+_, _<_, _≤_}
 use native.Mathlib.Omega.{arith}
 use native.Mathlib.Numerals.{add-one}
 use lib.ListN.{length, getD, drop, drop-of-length-le}
 use lib.Seq.{drop-cons}
-use Rattle.mapfile.specs.Header.{Blank, LineEnd, at-return, at-feed}
+use Rattle.mapfile.specs.Header.{Blank, LineEnd}
 use Rattle.mapfile.specs.HeaderWorking.{
   endItems,
   afterItems,
@@ -21,8 +21,8 @@ use Rattle.mapfile.specs.HeaderWorking.{
   comment-ends,
   comment-goes-on,
 }
-use Rattle.reader.specs.Parts.{GapRead, gapEnd}
-use Rattle.reader.specs.declared.Gap.{Gap}
+use Rattle.reader.specs.HeaderParts.{GapRead, gapEnd}
+use Rattle.reader.specs.declared.header.Gap.{Gap}
 
 -- The bytes left, by the first of them.
 pub left-cons : (s : List ℕ) (i : ℕ) → i < length s → drop i s ≡ getD s i 0 ∷ drop (i + 1) s
@@ -76,17 +76,13 @@ pub comment-start : (s : List ℕ) (at : ℕ) (seen : Bool) → at ≤ length s 
 comment-start s at seen l = record { from = omega arith; within = l; same = refl }
 
 module _ {s : List ℕ} {at i : ℕ} {seen : Bool} (k : SkippingComment s at seen i) where
-  pub comment-more : i < length s → ¬ (getD s i 0 ≡ 13) → ¬ (getD s i 0 ≡ 10) → SkippingComment s at seen (i + 1)
-  comment-more l p q =
+  pub comment-more : i < length s → ¬ LineEnd (getD s i 0) → SkippingComment s at seen (i + 1)
+  comment-more l n =
       record {
         from = omega (arith, k .from);
         within = omega arith;
-        same = k .same ∙ ap (λ (m : List ℕ). afterComment m seen) (left-cons s i l) ∙ comment-goes-on (drop (i + 1) s) seen no-end;
+        same = k .same ∙ ap (λ (m : List ℕ). afterComment m seen) (left-cons s i l) ∙ comment-goes-on (drop (i + 1) s) seen n;
       }
-    where
-      no-end : LineEnd (getD s i 0) → ⊥
-      no-end (at-return e) = p e
-      no-end (at-feed e) = q e
 
   pub comment-end : (r : Gap) → i < length s → LineEnd (getD s i 0) → GapRead s (afterItems (drop (i + 1) s) seen) r
       → GapRead s (afterComment (drop at s) seen) r

@@ -1,3 +1,6 @@
--- What the map reader promises.
+-- What the map reader promises, that its outcome is one, and what stands in the list after it.
 pub mod Promise
-pub mod Parts
+pub mod HeaderParts
+pub mod RasterParts
+pub mod Outcome
+pub mod Entered

@@ -4,38 +4,28 @@ use borrow.Author.Needs.{needs}
 use Rattle.reader.proofs.Answers.{answer-no}
 use Rattle.reader.proofs.begins.Statement.{statement}
 use Rattle.reader.proofs.begins.Tie as tie
-use Rattle.reader.proofs.begins.Reads as reads
-use Rattle.reader.proofs.begins.Lts as lts
 
--- src/lib.rt:61:9
 returns : tie.Need-returns
 returns c = answer-no (λ s. omega (arith, s .long))
 
--- src/lib.rt:63:8
 shared-slice-read-if2 : tie.Need-shared-slice-read-if2
 shared-slice-read-if2 c = search needs
 
--- src/lib.rt:63:18
 element-copy-out-if2 : tie.Need-element-copy-out-if2
 element-copy-out-if2 c = search needs
 
--- src/lib.rt:64:9
 returns-2 : tie.Need-returns-2
 returns-2 c = answer-no (λ s. c .if2 .taken (s .first))
 
--- src/lib.rt:66:8
 shared-slice-read-if3 : tie.Need-shared-slice-read-if3
 shared-slice-read-if3 c = search needs
 
--- src/lib.rt:66:18
 element-copy-out-if3 : tie.Need-element-copy-out-if3
 element-copy-out-if3 c = search needs
 
--- src/lib.rt:67:9
 returns-3 : tie.Need-returns-3
 returns-3 c = answer-no (λ s. c .if3 .taken (s .second))
 
--- src/lib.rt:57:1
 returns-4 : tie.Need-returns-4
 returns-4 c = search needs
 

@@ -2,54 +2,40 @@
 use borrow.Author.Needs.{needs}
 use Rattle.reader.proofs.fill.Statement.{statement}
 use Rattle.reader.proofs.fill.Tie as tie
-use Rattle.reader.proofs.fill.Reads as reads
-use Rattle.reader.proofs.fill.Lts as lts
-use Rattle.reader.proofs.fill_plain.Reads as fill-plain-reads
-use Rattle.reader.proofs.fill_raw.Reads as fill-raw-reads
 
--- src/lib.rt:484:9
 fill-plain-requires : tie.Need-fill-plain-requires
 fill-plain-requires c κs =
     let t = c .before .before .before in
     rw (t .if1 .taken) at (t .before .before .before .before .before .pre)
 
--- src/lib.rt:486:9
 fill-raw-requires : tie.Need-fill-raw-requires
 fill-raw-requires c κs =
     let t = c .before .before .before in
     rw (t .if1 .left) at (t .before .before .before .before .before .pre)
 
--- src/lib.rt:471:1
 same-length : tie.Need-same-length
 same-length c = search needs
 
--- src/lib.rt:471:1
 same-length-2 : tie.Need-same-length-2
 same-length-2 c = search needs
 
--- src/lib.rt:471:1
 same-length-3 : tie.Need-same-length-3
 same-length-3 c = search needs
 
--- src/lib.rt:471:1
 returns : tie.Need-returns
 returns c =
     let e = c .before .before .before .before .before .before in
     rw (e .before .before .before .before .if1 .taken) (e .fill-plain .ensures)
 
--- src/lib.rt:471:1
 same-length-4 : tie.Need-same-length-4
 same-length-4 c = search needs
 
--- src/lib.rt:471:1
 same-length-5 : tie.Need-same-length-5
 same-length-5 c = search needs
 
--- src/lib.rt:471:1
 same-length-6 : tie.Need-same-length-6
 same-length-6 c = search needs
 
--- src/lib.rt:471:1
 returns-2 : tie.Need-returns-2
 returns-2 c =
     let e = c .before .before .before .before .before .before in

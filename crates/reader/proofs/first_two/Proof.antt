@@ -5,30 +5,23 @@ use Rattle.reader.proofs.FirstTwo.{same-letters, letters-neither}
 use Rattle.reader.proofs.Answers.{answered-no}
 use Rattle.reader.proofs.first_two.Statement.{statement}
 use Rattle.reader.proofs.first_two.Tie as tie
-use Rattle.reader.proofs.first_two.Reads as reads
-use Rattle.reader.proofs.first_two.Lts as lts
-use Rattle.reader.proofs.begins.Reads as begins-reads
 
--- src/lib.rt:73:8
 begins-requires : tie.Need-begins-requires
 begins-requires c κs = search needs
 
--- src/lib.rt:74:9
 returns : tie.Need-returns
 returns c = same-letters plain _ (c .before .begins .ensures .0 (c .if1 .taken))
 
--- src/lib.rt:76:8
 begins-requires-2 : tie.Need-begins-requires-2
 begins-requires-2 c κs = search needs
 
--- src/lib.rt:77:9
 returns-2 : tie.Need-returns-2
 returns-2 c = same-letters raw _ (c .before .begins2 .ensures .0 (c .if2 .taken))
 
--- src/lib.rt:70:1
 returns-3 : tie.Need-returns-3
 returns-3 c =
-    letters-neither _ (answered-no (c .before .before .before .if1 .left) (c .before .before .before .before .begins .ensures .1)) (answered-no (c .if2 .left) (c .before .begins2 .ensures .1))
+    let e = c .before .before .before in
+    letters-neither _ (answered-no (e .if1 .left) (e .before .begins .ensures .1)) (answered-no (c .if2 .left) (c .before .begins2 .ensures .1))
 
 pub first-two-spec : {M : Type 1} → statement M
 first-two-spec = tie.close (tie.spec begins-requires returns begins-requires-2 returns-2 returns-3)

@@ -1,36 +1,28 @@
 -- `fits` meets its contract: each failed test is one bound of the sides.
 use mathlib.Core.Path.{_≡_, refl}
-use Prim.Native.Nat.{ℕ}
 use native.Mathlib.Omega.{arith}
 use Rattle.field.specs.Map.{side}
 use Rattle.reader.proofs.Answers.{answer-yes, answer-no}
 use Rattle.reader.proofs.fits.Statement.{statement}
 use Rattle.reader.proofs.fits.Tie as tie
-use Rattle.reader.proofs.fits.Reads as reads
-use Rattle.reader.proofs.fits.Lts as lts
 
 -- The code's limit is the map's.
 limit : side ≡ 64
 unfolding side
 limit = refl
 
--- src/lib.rt:247:9
 returns : tie.Need-returns
 returns c = answer-no (λ s. omega (arith, s .some-w))
 
--- src/lib.rt:250:9
 returns-2 : tie.Need-returns-2
 returns-2 c = answer-no (λ s. omega (arith, s .some-h))
 
--- src/lib.rt:253:9
 returns-3 : tie.Need-returns-3
 returns-3 c = answer-no (λ s. omega (arith, s .most-w, limit))
 
--- src/lib.rt:256:9
 returns-4 : tie.Need-returns-4
 returns-4 c = answer-no (λ s. omega (arith, s .most-h, limit))
 
--- src/lib.rt:243:1
 returns-5 : tie.Need-returns-5
 returns-5 c = answer-yes (record { some-w = omega arith; some-h = omega arith; most-w = omega (arith, limit); most-h = omega (arith, limit) })
 

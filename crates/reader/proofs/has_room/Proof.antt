@@ -4,18 +4,13 @@ use Rattle.reader.proofs.Answers.{answer-yes, answer-no}
 use Rattle.reader.proofs.Limits.{most-markers-is}
 use Rattle.reader.proofs.has_room.Statement.{statement}
 use Rattle.reader.proofs.has_room.Tie as tie
-use Rattle.reader.proofs.has_room.Reads as reads
-use Rattle.reader.proofs.has_room.Lts as lts
 
--- src/lib.rt:495:9
 returns : tie.Need-returns
 returns c = answer-no (λ s. omega (arith, s .room))
 
--- src/lib.rt:498:9
 returns-2 : tie.Need-returns-2
 returns-2 c = answer-no (λ s. omega (arith, s .few, most-markers-is))
 
--- src/lib.rt:491:1
 returns-3 : tie.Need-returns-3
 returns-3 c = answer-yes (record { room = omega arith; few = omega (arith, most-markers-is) })
 

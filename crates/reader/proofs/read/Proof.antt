@@ -4,20 +4,13 @@ use Rattle.reader.proofs.Joining.{file-no-letters}
 use borrow.Author.Needs.{needs}
 use Rattle.reader.proofs.read.Statement.{statement}
 use Rattle.reader.proofs.read.Tie as tie
-use Rattle.reader.proofs.read.Reads as reads
-use Rattle.reader.proofs.read.Lts as lts
-use Rattle.reader.proofs.first_two.Reads as first-two-reads
-use Rattle.reader.proofs.read_map.Reads as read-map-reads
 
--- src/lib.rt:556:9
 first-two-requires : tie.Need-first-two-requires
 first-two-requires c κs = search needs
 
--- src/lib.rt:558:47
 enum-told : tie.Need-enum-told
 enum-told c = search needs
 
--- src/lib.rt:558:27
 read-map-requires : tie.Need-read-map-requires
 read-map-requires c κs =
     let e = c .before .before .before in
@@ -25,11 +18,9 @@ read-map-requires c κs =
     let s = k .before .before .before .before .before in
     record { letters = letters-plain _ _ (k .first-two .ensures) (e .enum-told .given .1); parallel = s .pre }
 
--- src/lib.rt:559:46
 enum-told-2 : tie.Need-enum-told-2
 enum-told-2 c = search needs
 
--- src/lib.rt:559:25
 read-map-requires-2 : tie.Need-read-map-requires-2
 read-map-requires-2 c κs =
     let e = c .before .before .before in
@@ -37,43 +28,33 @@ read-map-requires-2 c κs =
     let s = k .before .before .before .before .before in
     record { letters = letters-raw _ _ (k .first-two .ensures) (e .enum-told2 .given .1); parallel = s .pre }
 
--- src/lib.rt:560:29
 enum-told-3 : tie.Need-enum-told-3
 enum-told-3 c = search needs
 
--- src/lib.rt:551:1
 same-length : tie.Need-same-length
 same-length c = search needs
 
--- src/lib.rt:551:1
 same-length-2 : tie.Need-same-length-2
 same-length-2 c = search needs
 
--- src/lib.rt:551:1
 same-length-3 : tie.Need-same-length-3
 same-length-3 c = search needs
 
--- src/lib.rt:551:1
 returns : tie.Need-returns
 returns c = search needs
 
--- src/lib.rt:551:1
 same-length-4 : tie.Need-same-length-4
 same-length-4 c = search needs
 
--- src/lib.rt:551:1
 same-length-5 : tie.Need-same-length-5
 same-length-5 c = search needs
 
--- src/lib.rt:551:1
 same-length-6 : tie.Need-same-length-6
 same-length-6 c = search needs
 
--- src/lib.rt:551:1
 returns-2 : tie.Need-returns-2
 returns-2 c = search needs
 
--- src/lib.rt:551:1
 returns-3 : tie.Need-returns-3
 returns-3 c =
     let k = c .before .before in

@@ -1,7 +1,7 @@
 -- `read_map` meets its contract: no header, sides out of bounds, or what reading the raster finds, in that order.
 use borrow.Author.Tests.{not-true, not-false}
 use lib.ListN.{drop}
-use Rattle.reader.specs.Parts.{formatOf}
+use Rattle.reader.specs.RasterParts.{formatOf}
 use Rattle.reader.proofs.Answers.{answered-no}
 use Rattle.reader.proofs.FirstTwo.{letters-long}
 use Rattle.reader.proofs.Heading.{head-found, head-missing}
@@ -9,38 +9,27 @@ use Rattle.reader.proofs.Joining.{part-is, map-no-header, map-no-sides,
 use borrow.Author.Needs.{needs}
 use Rattle.reader.proofs.read_map.Statement.{statement}
 use Rattle.reader.proofs.read_map.Tie as tie
-use Rattle.reader.proofs.read_map.Reads as reads
-use Rattle.reader.proofs.read_map.Lts as lts
-use Rattle.reader.proofs.fits.Reads as fits-reads
-use Rattle.reader.proofs.header.Reads as header-reads
-use Rattle.reader.proofs.read_raster.Reads as read-raster-reads
 
--- src/lib.rt:540:9
 header-requires : tie.Need-header-requires
 header-requires c κs =
     let s = c .before .before .before .before in
     letters-long (formatOf (s .args .plain)) _ (drop 2 (s .args .src .now)) (s .pre .letters)
 
--- src/lib.rt:541:21
 enum-known-head : tie.Need-enum-known-head
 enum-known-head c = search needs
 
--- src/lib.rt:542:9
 enum-told : tie.Need-enum-told
 enum-told c = search needs
 
--- src/lib.rt:542:9
 returns : tie.Need-returns
 returns c =
     let k = c .before .before in
     let s = k .before .before .before .before .before in
     (s .pre .parallel, map-no-header (formatOf (s .args .plain)) _ _ (s .pre .letters) (head-missing _ _ _ (k .header .ensures) (c .enum-told .given .1)))
 
--- src/lib.rt:544:9
 fits-requires : tie.Need-fits-requires
 fits-requires c κs = search needs
 
--- src/lib.rt:545:9
 returns-2 : tie.Need-returns-2
 returns-2 c =
     let g = c .before .before .before in
@@ -51,23 +40,19 @@ returns-2 c =
           (answered-no (not-true _ (c .if1 .taken)) (c .before .fits2 .ensures .1)),
     )
 
--- src/lib.rt:547:24
 sub-read-raster : tie.Need-sub-read-raster
 sub-read-raster c =
     let g = c .before .before .before in
     head-found _ _ _ _ _ _ (g .before .before .header .ensures) (g .head .given .1) .0
 
--- src/lib.rt:547:24
 part-read-raster-start : tie.Need-part-read-raster-start
 part-read-raster-start c =
     let g = c .before .before .before in
     head-found _ _ _ _ _ _ (g .before .before .header .ensures) (g .head .given .1) .0
 
--- src/lib.rt:547:24
 part-read-raster-end : tie.Need-part-read-raster-end
 part-read-raster-end c = search needs
 
--- src/lib.rt:547:5
 read-raster-requires : tie.Need-read-raster-requires
 read-raster-requires c κs =
     let e = c .before .before .before .before in
@@ -75,19 +60,15 @@ read-raster-requires c κs =
     let s = k .before .before .before .before .before in
     record { sides = e .before .fits2 .ensures .0 (not-false _ (e .if1 .left)); parallel = s .pre .parallel }
 
--- src/lib.rt:529:1
 same-length : tie.Need-same-length
 same-length c = search needs
 
--- src/lib.rt:529:1
 same-length-2 : tie.Need-same-length-2
 same-length-2 c = search needs
 
--- src/lib.rt:529:1
 same-length-3 : tie.Need-same-length-3
 same-length-3 c = search needs
 
--- src/lib.rt:529:1
 returns-3 : tie.Need-returns-3
 returns-3 c =
     let r = c .before .before .before .before .before .before in

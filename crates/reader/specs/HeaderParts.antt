@@ -1,0 +1,53 @@
+-- What reading the letters and each part of the header promises, by the cases of its answer.
+use mathlib.Core.Path.{_≡_}
+use mathlib.Core.Bool.{Bool, true, false}
+use mathlib.Core.List.{List, [], _∷_}
+use mathlib.Core.Option.{Option, none, some}
+use Prim.Native.Nat.{ℕ, zero, suc, _≤_}
+use lib.ListN.{length, getD, drop}
+use Rattle.mapfile.specs.Header.{Header}
+use Rattle.mapfile.specs.HeaderWorking.{Value, value, no-value}
+use Rattle.mapfile.specs.File.{Format, plain, raw, Letters}
+use Rattle.reader.specs.declared.Letters.{Letters as LettersFound}
+use Rattle.reader.specs.declared.Letters.the-variants.{Plain, Raw, Neither}
+use Rattle.reader.specs.declared.header.Gap.{Gap}
+use Rattle.reader.specs.declared.header.Gap.the-variants.{Ends, Missing}
+use Rattle.reader.specs.declared.header.Numeral.{Numeral}
+use Rattle.reader.specs.declared.header.Numeral.the-variants.{Value as NumeralValue, Missing as NumeralMissing}
+use Rattle.reader.specs.declared.header.Head.{Head}
+use Rattle.reader.specs.declared.header.Head.the-variants.{Sides as HeadSides, Missing as HeadMissing}
+
+-- The bytes begin with these two.
+pub record SameTwo (file two : List ℕ) : Type 0 where
+  pub long : 2 ≤ length file
+  pub first : getD file 0 0 ≡ getD two 0 0
+  pub second : getD file 1 0 ≡ getD two 1 0
+
+-- The format that the first two bytes name.
+abbrev pub LettersRead : List ℕ → LettersFound → Type 0
+LettersRead file Plain = Letters plain file (drop 2 file)
+LettersRead file Raw = Letters raw file (drop 2 file)
+LettersRead file Neither = (f : Format) (rest : List ℕ) → ¬ Letters f file rest
+
+-- A separator's end, against what the working leaves after it.
+abbrev pub GapRead : List ℕ → Option (List ℕ) → Gap → Type 0
+GapRead src o (Ends e) = (e ≤ length src) × (o ≡ some (drop e src))
+GapRead src o Missing = o ≡ none
+
+abbrev pub gapEnd : ℕ → Bool → Gap
+gapEnd at true = Ends at
+gapEnd at false = Missing
+
+-- A number and its end, against what the working gives.
+abbrev pub NumeralRead : List ℕ → Value → Numeral → Type 0
+NumeralRead src o (NumeralValue v e) = (e ≤ length src) × (o ≡ value v (drop e src))
+NumeralRead src o NumeralMissing = o ≡ no-value
+
+abbrev pub numeralEnd : ℕ → ℕ → ℕ → Numeral
+numeralEnd zero v e = NumeralMissing
+numeralEnd (suc n) v e = NumeralValue v e
+
+-- A header and where the raster begins, by the grammar.
+abbrev pub HeadRead : List ℕ → ℕ → Head → Type 0
+HeadRead src at (HeadSides w h e) = (e ≤ length src) × Header (w ∷ h ∷ []) (drop at src) (drop e src)
+HeadRead src at HeadMissing = (w h : ℕ) (body : List ℕ) → ¬ Header (w ∷ h ∷ []) (drop at src) body
