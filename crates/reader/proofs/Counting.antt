@@ -45,9 +45,14 @@ module _ {w h : ℕ} {body : List ℕ} (r : RawRows w h body) where
   -- There are no more rocks than crossings passed.
   pub counting-few : {rocks : ℕ} {p : Place} → Counting w h body rocks p → rocks ≤ 4096
   counting-few {rocks} {p} k =
-      omega
-      (arith, k .counted, k .within, crossings-few (r .sides), ones-le (take (placeOf w p) (rawBits w h body)),
-       length-take (placeOf w p) (rawBits w h body))
+      omega (
+        arith,
+        k .counted,
+        k .within,
+        crossings-few (r .sides),
+        ones-le (take (placeOf w p) (rawBits w h body)),
+        length-take (placeOf w p) (rawBits w h body),
+      )
 
   pub counting-more : {rocks bit : ℕ} {p q : Place} → p .row < h → bit ≡ packedBit w body (p .row) (p .x) → Steps w p q → Counting w h body rocks p
       → Counting w h body (rocks + bit) q

@@ -36,10 +36,10 @@ enters-one ids xs ys n zero x y p e = absurd (e refl)
 enters-one ids xs ys n (suc b) x y p e =
     record {
       parallel =
-        record {
-          as-xs = length-set xs n x ∙ p .as-xs ∙ sym (length-set ids n (n + 1));
-          as-ys = length-set ys n y ∙ p .as-ys ∙ sym (length-set ids n (n + 1));
-        };
+          record {
+            as-xs = length-set xs n x ∙ p .as-xs ∙ sym (length-set ids n (n + 1));
+            as-ys = length-set ys n y ∙ p .as-ys ∙ sym (length-set ids n (n + 1));
+          };
       slots = listOf-set ids xs ys n (n + 1) x y;
       counted = refl;
     }
@@ -85,10 +85,10 @@ module _ (w h : ℕ) where
       record {
         made = omega (arith, ones-snoc done (suc b) few, f .made);
         slots =
-          ap (λ (l : List Marker). set l n (marker (n + 1) x y)) (f .slots)
-          ∙ slot-next (markersOf w h done) before n (marker (n + 1) x y) (markers-count done ∙ sym (f .made)) (room (omega arith))
-          ∙ ap (λ (m : Marker). (markersOf w h done ++ m ∷ []) ++ drop (n + 1) before) same
-          ∙ ap (λ (l : List Marker). l ++ drop (n + 1) before) (sym (markers-snoc done (suc b)));
+            ap (λ (l : List Marker). set l n (marker (n + 1) x y)) (f .slots)
+            ∙ slot-next (markersOf w h done) before n (marker (n + 1) x y) (markers-count done ∙ sym (f .made)) (room (omega arith))
+            ∙ ap (λ (m : Marker). (markersOf w h done ++ m ∷ []) ++ drop (n + 1) before) same
+            ∙ ap (λ (l : List Marker). l ++ drop (n + 1) before) (sym (markers-snoc done (suc b)));
       }
     where
       at : length done ≡ 0 + length done

@@ -59,9 +59,14 @@ module _ {w h : ℕ} {bits ids₀ xs₀ ys₀ : List ℕ} (m : Room w h bits ids
     -- A bit that is not 0 finds a slot.
     left : ¬ (getD bits (placeOf w p) 0 ≡ 0) → n < ones bits
     left e =
-        omega
-        (arith, k .filling .made, ones-snoc (take (placeOf w p) bits) (getD bits (placeOf w p) 0) (m .are (placeOf w p)), ap ones passed,
-         ap ones (take-append-drop (placeOf w p + 1) bits), ones-append (take (placeOf w p + 1) bits) (drop (placeOf w p + 1) bits))
+        omega (
+          arith,
+          k .filling .made,
+          ones-snoc (take (placeOf w p) bits) (getD bits (placeOf w p) 0) (m .are (placeOf w p)),
+          ap ones passed,
+          ap ones (take-append-drop (placeOf w p + 1) bits),
+          ones-append (take (placeOf w p + 1) bits) (drop (placeOf w p + 1) bits),
+        )
 
     pub fill-may : (bit : ℕ) → bit ≡ getD bits (placeOf w p) 0 → MayEnterBit ids xs ys n bit (p .x) (h - (p .row + 1))
     fill-may bit e =

@@ -49,31 +49,45 @@ module _ {w : ℕ} {body : List ℕ} {p : Place} {i : ℕ} (l : i < length body)
   passed-bit b =
       sym
       (ap (λ (m : List ℕ). getD m (placeOf w p) 0)
-       (parted ∙ ap (λ (m : List ℕ). digitsOf (take i body) ++ m) (digits-of-bit (drop (i + 1) body) b))
-       ∙ getD-at (digitsOf (take i body)) (getD body i 0 - 48) (digitsOf (drop (i + 1) body)) 0 (placeOf w p) (sym (k .place)))
+      (parted ∙ ap (λ (m : List ℕ). digitsOf (take i body) ++ m) (digits-of-bit (drop (i + 1) body) b))
+      ∙ getD-at (digitsOf (take i body)) (getD body i 0 - 48) (digitsOf (drop (i + 1) body)) 0 (placeOf w p) (sym (k .place)))
 
   pub passed-below : BitByte (getD body i 0) → placeOf w p < length (digitsOf body)
   passed-below b =
-      omega
-      (arith, k .place, ap length parted, length-append (digitsOf (take i body)) (digitsOf (getD body i 0 ∷ drop (i + 1) body)),
-       ap length (digits-of-bit (drop (i + 1) body) b))
+      omega (
+        arith,
+        k .place,
+        ap length parted,
+        length-append (digitsOf (take i body)) (digitsOf (getD body i 0 ∷ drop (i + 1) body)),
+        ap length (digits-of-bit (drop (i + 1) body) b),
+      )
 
   pub passed-digit : {q : Place} → BitByte (getD body i 0) → Steps w p q → PassedPlain w body q (i + 1)
   passed-digit b s =
       record {
         within = omega arith;
-        place = s .next ∙ omega
-        (arith, k .place, ap length passed, length-append (digitsOf (take i body)) (digitsOf (getD body i 0 ∷ [])),
-         ap length (digits-of-bit [] b), ap length digits-of-none);
+        place = s .next ∙ omega (
+          arith,
+          k .place,
+          ap length passed,
+          length-append (digitsOf (take i body)) (digitsOf (getD body i 0 ∷ [])),
+          ap length (digits-of-bit [] b),
+          ap length digits-of-none,
+        );
       }
 
   pub passed-other : ¬ BitByte (getD body i 0) → PassedPlain w body p (i + 1)
   passed-other b =
       record {
         within = omega arith;
-        place = omega
-        (arith, k .place, ap length passed, length-append (digitsOf (take i body)) (digitsOf (getD body i 0 ∷ [])),
-         ap length (digits-of-other [] (λ e. b (zero-byte e)) (λ e. b (one-byte e))), ap length digits-of-none);
+        place = omega (
+          arith,
+          k .place,
+          ap length passed,
+          length-append (digitsOf (take i body)) (digitsOf (getD body i 0 ∷ [])),
+          ap length (digits-of-other [] (λ e. b (zero-byte e)) (λ e. b (one-byte e))),
+          ap length digits-of-none,
+        );
       }
 
 module _ {w h : ℕ} {body ids xs ys : List ℕ} (m : MayFill plain w h body ids xs ys) where

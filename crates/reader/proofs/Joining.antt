@@ -92,8 +92,8 @@ module _ (f : Format) (w h : ℕ) (body ids xs ys : List ℕ) (m : MayReadRaster
             counted = of .counted;
             room = record { room = omega (arith, room .room, long); few = room .few };
             slots =
-              t .slots (of .bits) (of .raster)
-              ∙ ap (λ (i : ℕ). markersOf w h (of .bits) ++ drop i (listOf ids xs ys)) (sym (of .counted));
+                t .slots (of .bits) (of .raster)
+                ∙ ap (λ (i : ℕ). markersOf w h (of .bits) ++ drop i (listOf ids xs ys)) (sym (of .counted));
           }
 
 -- The slice from the raster's first byte on is what follows the header.

@@ -101,8 +101,8 @@ module _ {w h : ℕ} {body : List ℕ} {digits rocks i : ℕ} (k : JudgingPlain 
   judged-foreign l b c n =
       record {
         faulty = λ z.
-          plain-foreign (k .bits) (take i body) (drop (i + 1) body) (getD body i 0) (k .passed) (omega (arith, k .counted, k .few)) (foreign b c)
-          (parted l) refl;
+            plain-foreign (k .bits) (take i body) (drop (i + 1) body) (getD body i 0) (k .passed) (omega (arith, k .counted, k .few)) (foreign b c)
+            (parted l) refl;
         good = λ (e : _≡_ {A = ℕ} 13 0). absurd (omega arith);
       }
 
@@ -121,9 +121,9 @@ module _ {w h : ℕ} {body : List ℕ} {digits rocks i : ℕ} (k : JudgingPlain 
       record {
         faulty = λ z. absurd (z refl);
         good = λ e.
-          record {
-            bits = k .bits;
-            raster = record { digits = whole l; crossings = omega (arith, k .counted, k .few) };
-            counted = rocks-marked w h (k .bits) rocks (k .marked);
-          };
+            record {
+              bits = k .bits;
+              raster = record { digits = whole l; crossings = omega (arith, k .counted, k .few) };
+              counted = rocks-marked w h (k .bits) rocks (k .marked);
+            };
       }

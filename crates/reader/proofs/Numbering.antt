@@ -45,8 +45,8 @@ module _ {s : List ℕ} {at v i : ℕ} (k : Numbering s at v i) where
         few = omega (arith, k .from, k .few);
         small = rw next (omega (arith, k .small, pow-suc 10 (i - at), d .from-zero, d .to-nine));
         same = k .same ∙ ap (λ (t : List ℕ). numberFrom t (i - at) v) (left-cons s i l)
-          ∙ number-digit (drop (i + 1) s) (i - at) v d (omega (arith, k .few))
-          ∙ ap (λ (n : ℕ). numberFrom (drop (i + 1) s) n (v * 10 + (getD s i 0 - 48))) (sym next);
+            ∙ number-digit (drop (i + 1) s) (i - at) v d (omega (arith, k .few))
+            ∙ ap (λ (n : ℕ). numberFrom (drop (i + 1) s) n (v * 10 + (getD s i 0 - 48))) (sym next);
       }
     where
       next : i + 1 - at ≡ suc (i - at)
@@ -69,10 +69,10 @@ module _ {s : List ℕ} {at v i : ℕ} (k : Numbering s at v i) where
   numbering-stop r l d q =
       end-read (i - at)
       (k .same ∙ ap (λ (t : List ℕ). numberFrom t (i - at) v) (left-cons s i l) ∙ number-stop (drop (i + 1) s) (i - at) v d
-       ∙ ap (endNumber (i - at) v) (sym (left-cons s i l))) r q
+      ∙ ap (endNumber (i - at) v) (sym (left-cons s i l))) r q
 
   pub numbering-end : (r : Numeral) → length s ≤ i → r ≡ numeralEnd (i - at) v i → NumeralRead s (numberFrom (drop at s) 0 0) r
   numbering-end r l q =
       end-read (i - at)
       (k .same ∙ ap (λ (t : List ℕ). numberFrom t (i - at) v) (drop-of-length-le s l) ∙ number-none (i - at) v
-       ∙ ap (endNumber (i - at) v) (sym (drop-of-length-le s l))) r q
+      ∙ ap (endNumber (i - at) v) (sym (drop-of-length-le s l))) r q

@@ -59,7 +59,7 @@ module _ {s : List ℕ} {at i : ℕ} {seen any : Bool} (k : SkippingBlanks s at 
   blanks-stop r l b h q =
       rw (k .same)
       (end-read any
-       (ap (λ (m : List ℕ). afterItems m any) (left-cons s i l) ∙ items-stop (drop (i + 1) s) any b h ∙ ap (endItems any) (sym (left-cons s i l))) r q)
+      (ap (λ (m : List ℕ). afterItems m any) (left-cons s i l) ∙ items-stop (drop (i + 1) s) any b h ∙ ap (endItems any) (sym (left-cons s i l))) r q)
 
   pub blanks-end : (r : Gap) → length s ≤ i → r ≡ gapEnd i any → GapRead s (afterItems (drop at s) seen) r
   blanks-end r l q =

@@ -369,14 +369,7 @@ fn enter_bit(
 }
 
 // Enters the rocks of a P4 raster in raster order. "The first raster row is the northmost."
-fn fill_raw(
-    body: &[u8],
-    w: usize,
-    h: usize,
-    ids: &mut [u16],
-    xs: &mut [u16],
-    ys: &mut [u16],
-)
+fn fill_raw(body: &[u8], w: usize, h: usize, ids: &mut [u16], xs: &mut [u16], ys: &mut [u16])
     requires { ⌜ MayFill raw w h (now body) (now ids) (now xs) (now ys) ⌝ }
     ensures { λ _. ⌜ Fills raw w h (now (body .entry)) (now (ids .entry)) (now (xs .entry)) (now (ys .entry)) (now (ids .exit)) (now (xs .exit)) (now (ys .exit)) ⌝ }
 {
@@ -432,14 +425,7 @@ fn judge_plain(body: &[u8], w: usize, h: usize) -> Judged
 }
 
 // Enters the rocks of a P1 raster in raster order.
-fn fill_plain(
-    body: &[u8],
-    w: usize,
-    h: usize,
-    ids: &mut [u16],
-    xs: &mut [u16],
-    ys: &mut [u16],
-)
+fn fill_plain(body: &[u8], w: usize, h: usize, ids: &mut [u16], xs: &mut [u16], ys: &mut [u16])
     requires { ⌜ MayFill plain w h (now body) (now ids) (now xs) (now ys) ⌝ }
     ensures { λ _. ⌜ Fills plain w h (now (body .entry)) (now (ids .entry)) (now (xs .entry)) (now (ys .entry)) (now (ids .exit)) (now (xs .exit)) (now (ys .exit)) ⌝ }
 {
@@ -526,13 +512,7 @@ fn read_raster(
 }
 
 // Reads what follows the letters of a format. "the raster begins right after that one blank byte".
-fn read_map(
-    src: &[u8],
-    plain: bool,
-    ids: &mut [u16],
-    xs: &mut [u16],
-    ys: &mut [u16],
-) -> Reading
+fn read_map(src: &[u8], plain: bool, ids: &mut [u16], xs: &mut [u16], ys: &mut [u16]) -> Reading
     requires { ⌜ MayReadMap (formatOf plain) (now src) (now ids) (now xs) (now ys) ⌝ }
     ensures same { λ r. ⌜ Parallel (now (ids .exit)) (now (xs .exit)) (now (ys .exit)) ⌝ }
     ensures read { λ r. ⌜ Reads (now (src .entry)) (listOf (now (ids .entry)) (now (xs .entry)) (now (ys .entry))) (listOf (now (ids .exit)) (now (xs .exit)) (now (ys .exit))) r ⌝ }

@@ -117,7 +117,7 @@ skip-blanks-returns : (t : ℕ) → skip-blanks-lts.Need-returns (
   gap-end-reads.Asked,
   gap-end-reads.Learnt,
 ) (skip-blanks-at t) skip-blanks.Post skip-blanks-Inv-loop skip-blanks-μ-loop
-skip-blanks-returns t c = 
+skip-blanks-returns t c =
     let l = c .before .before .before .before in
     blanks-hash (l .loop .inv) (c .skip-comment .result) (c .before .before .before .loop-test .taken) (c .before .if1 .taken) (c .skip-comment .ensures)
 
@@ -163,7 +163,7 @@ skip-blanks-returns-2 : (t : ℕ) → skip-blanks-lts.Need-returns-2 (
   gap-end-reads.Asked,
   gap-end-reads.Learnt,
 ) (skip-blanks-at t) skip-blanks.Post skip-blanks-Inv-loop skip-blanks-μ-loop
-skip-blanks-returns-2 t c = 
+skip-blanks-returns-2 t c =
     let i = c .before .before .before .before .before .before in
     let b = c .before .before in
     blanks-stop (i .before .loop .inv) (c .gap-end .result) (i .loop-test .taken) (answered-no (not-true _ (c .before .if2 .taken)) (b .is-blank .ensures .1)) (b .before .before .if1 .left) (c .gap-end .ensures)
@@ -199,7 +199,7 @@ skip-blanks-loop-again : (t : ℕ) → skip-blanks-lts.Need-loop-again (
   gap-end-reads.Asked,
   gap-end-reads.Learnt,
 ) (skip-blanks-at t) skip-blanks.Post skip-blanks-Inv-loop skip-blanks-μ-loop
-skip-blanks-loop-again t c = 
+skip-blanks-loop-again t c =
     let i = c .before .before .before .before .before in
     blanks-more (i .before .loop .inv) (i .loop-test .taken) (c .before .is-blank .ensures .0 (not-false _ (c .if2 .left)))
 
@@ -264,7 +264,7 @@ skip-comment-returns : (t : ℕ) → skip-comment-lts.Need-returns (
   skip-blanks-below t,
   skip-blanks.Post,
 ) (skip-comment-at t) skip-comment.Post skip-comment-Inv-loop skip-comment-μ-loop
-skip-comment-returns t c = 
+skip-comment-returns t c =
     let l = c .before .before .before .before in
     comment-end (l .loop .inv) (c .skip-blanks .result) (c .before .before .before .loop-test .taken) (at-return (c .before .if1 .taken)) (c .skip-blanks .ensures)
 
@@ -294,7 +294,7 @@ skip-comment-returns-2 : (t : ℕ) → skip-comment-lts.Need-returns-2 (
   skip-blanks-below t,
   skip-blanks.Post,
 ) (skip-comment-at t) skip-comment.Post skip-comment-Inv-loop skip-comment-μ-loop
-skip-comment-returns-2 t c = 
+skip-comment-returns-2 t c =
     let i = c .before .before .before .before .before in
     comment-end (i .before .loop .inv) (c .skip-blanks2 .result) (i .loop-test .taken) (at-feed (c .before .if2 .taken)) (c .skip-blanks2 .ensures)
 
@@ -321,7 +321,7 @@ skip-comment-loop-again : (t : ℕ) → skip-comment-lts.Need-loop-again (
   skip-blanks-below t,
   skip-blanks.Post,
 ) (skip-comment-at t) skip-comment.Post skip-comment-Inv-loop skip-comment-μ-loop
-skip-comment-loop-again t c = 
+skip-comment-loop-again t c =
     let i = c .before .before .before .before in
     comment-more (i .before .loop .inv) (i .loop-test .taken) (c .before .before .if1 .left) (c .if2 .left)
 

@@ -99,9 +99,10 @@ loop-again c =
     let i = t .before .before .before in
     let l = i .before in
     let s = l .before .before .before .before .before in
-    let b = passed-bit (i .loop-test .taken) (l .loop .inv .1) (bit-here t) in
-    (fill-more (plain-room (s .pre)) (row-here t) (l .loop .inv .0) b (e .enter-bit .ensures) (c .next .ensures) (e .enter-bit .kept .0),
-     passed-digit (i .loop-test .taken) (l .loop .inv .1) (bit-here t) (c .next .ensures))
+    let b = passed-bit (i .loop-test .taken) (l .loop .inv .1) (bit-here t) in (
+      fill-more (plain-room (s .pre)) (row-here t) (l .loop .inv .0) b (e .enter-bit .ensures) (c .next .ensures) (e .enter-bit .kept .0),
+      passed-digit (i .loop-test .taken) (l .loop .inv .1) (bit-here t) (c .next .ensures),
+    )
 
 -- src/lib.rt:446:5
 loop-less-2 : tie.Need-loop-less-2 Inv-loop μ-loop

@@ -74,11 +74,12 @@ returns-3 c =
     let j = c .before in
     let k = j .before .before .before .before in
     let g = k .before .before .before .before in
-    let e = gap-ends _ _ _ _ (j .before .before .one-blank .ensures) (j .last .given .1) in
-    (e .0,
-     head-sides _ _ _ _ _ _ (numeral-value _ _ _ _ _ (g .before .before .next-number .ensures) (g .width .given .1) .1)
-     (numeral-value _ _ _ _ _ (k .before .before .next-number2 .ensures) (k .height .given .1) .1)
-     (e .1))
+    let e = gap-ends _ _ _ _ (j .before .before .one-blank .ensures) (j .last .given .1) in (
+      e .0,
+      head-sides _ _ _ _ _ _ (numeral-value _ _ _ _ _ (g .before .before .next-number .ensures) (g .width .given .1) .1)
+          (numeral-value _ _ _ _ _ (k .before .before .next-number2 .ensures) (k .height .given .1) .1)
+          (e .1),
+    )
 
 -- src/lib.rt:223:1
 returns-4 : tie.Need-returns-4

@@ -45,10 +45,11 @@ returns-2 : tie.Need-returns-2
 returns-2 c =
     let g = c .before .before .before in
     let k = g .before .before in
-    let s = k .before .before .before .before .before in
-    (s .pre .parallel,
-     map-no-sides (formatOf (s .args .plain)) _ _ (s .pre .letters) (head-found _ _ _ _ _ _ (k .header .ensures) (g .head .given .1) .1)
-     (answered-no (not-true _ (c .if1 .taken)) (c .before .fits2 .ensures .1)))
+    let s = k .before .before .before .before .before in (
+      s .pre .parallel,
+      map-no-sides (formatOf (s .args .plain)) _ _ (s .pre .letters) (head-found _ _ _ _ _ _ (k .header .ensures) (g .head .given .1) .1)
+          (answered-no (not-true _ (c .if1 .taken)) (c .before .fits2 .ensures .1)),
+    )
 
 -- src/lib.rt:547:24
 sub-read-raster : tie.Need-sub-read-raster
@@ -93,13 +94,14 @@ returns-3 c =
     let e = r .before .before .before .before .before in
     let g = e .before .before .before in
     let k = g .before .before in
-    let s = k .before .before .before .before .before in
-    (r .read-raster .ensures .0,
-     map-reads (formatOf (s .args .plain)) _ _ (s .pre .letters) (head-found _ _ _ _ _ _ (k .header .ensures) (g .head .given .1) .1)
-     (e .before .fits2 .ensures .0 (not-false _ (e .if1 .left)))
-     (r .read-raster .result)
-     _
-     (rw (part-is (s .args .src .now) (g .head .given .0 .1 .1 .0)) at (r .read-raster .ensures .1)))
+    let s = k .before .before .before .before .before in (
+      r .read-raster .ensures .0,
+      map-reads (formatOf (s .args .plain)) _ _ (s .pre .letters) (head-found _ _ _ _ _ _ (k .header .ensures) (g .head .given .1) .1)
+          (e .before .fits2 .ensures .0 (not-false _ (e .if1 .left)))
+          (r .read-raster .result)
+          _
+          (rw (part-is (s .args .src .now) (g .head .given .0 .1 .1 .0)) at (r .read-raster .ensures .1)),
+    )
 
 pub read-map-spec : {M : Type 1} → statement M
 read-map-spec =

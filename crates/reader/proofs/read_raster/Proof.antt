@@ -30,10 +30,11 @@ has-room-requires c κs = search needs
 returns-2 : tie.Need-returns-2
 returns-2 c =
     let j = c .before .before .before .before in
-    let s = j .before .before .before .before .before in
-    (s .pre .parallel,
-     raster-over _ _ _ _ _ _ _ (s .pre) _ (j .judge .ensures) (c .before .before .if1 .left)
-     (answered-no (not-true _ (c .if2 .taken)) (c .before .has-room .ensures .1)))
+    let s = j .before .before .before .before .before in (
+      s .pre .parallel,
+      raster-over _ _ _ _ _ _ _ (s .pre) _ (j .judge .ensures) (c .before .before .if1 .left)
+          (answered-no (not-true _ (c .if2 .taken)) (c .before .has-room .ensures .1)),
+    )
 
 -- src/lib.rt:524:5
 fill-requires : tie.Need-fill-requires
@@ -61,11 +62,12 @@ returns-3 c =
     let f = c .before .before .before .before .before .before in
     let e = f .before .before .before .before in
     let j = e .before .before .before .before in
-    let s = j .before .before .before .before .before in
-    (f .fill .ensures .parallel,
-     raster-taken _ _ _ _ _ _ _ (s .pre) _ (j .judge .ensures) (e .before .before .if1 .left)
-     (e .before .has-room .ensures .0 (not-false _ (e .if2 .left)))
-     (f .fill .ensures))
+    let s = j .before .before .before .before .before in (
+      f .fill .ensures .parallel,
+      raster-taken _ _ _ _ _ _ _ (s .pre) _ (j .judge .ensures) (e .before .before .if1 .left)
+          (e .before .has-room .ensures .0 (not-false _ (e .if2 .left)))
+          (f .fill .ensures),
+    )
 
 pub read-raster-spec : {M : Type 1} → statement M
 read-raster-spec =

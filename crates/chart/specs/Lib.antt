@@ -1,0 +1,2 @@
+-- The labelling program's text, from the bytes of a map file.
+pub mod Promise
