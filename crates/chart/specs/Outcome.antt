@@ -1,0 +1,1 @@
+-- The program has one text for a file.
