@@ -3,6 +3,7 @@ use mathlib.Core.Path.{_≡_}
 use mathlib.Core.List.{List, [], _∷_, _++_}
 use Prim.Native.Nat.{ℕ, _+_, _*_, _<_, _≤_}
 use lib.ListN.{length, take, drop}
+use Rattle.field.specs.Map.{side, Sides}
 use Rattle.field.specs.Labels.{Closed, Rock, RockOn, Shut, Count}
 use Rattle.field.specs.Groups.{Groups}
 use Rattle.labels.specs.declared.Labelled.{Labelled}
@@ -45,8 +46,8 @@ pub record NumberRoom (out : List ℕ) (at v : ℕ) : Type 0 where
   pub room : at + 5 ≤ length out
 
 -- The first line: five numbers, of five bytes at most each.
-pub record FirstLine (w h rocks shut groups : ℕ) (l : List ℕ) : Type 0 where
-  pub line : Line (w ∷ h ∷ rocks ∷ shut ∷ groups ∷ []) l
+pub record FirstLine (w h : ℕ) (r : Labelled) (l : List ℕ) : Type 0 where
+  pub line : Line (w ∷ h ∷ r .rocks ∷ r .shut ∷ r .groups ∷ []) l
   pub few : length l ≤ 25
 
 pub record LineRoom (out : List ℕ) (w h : ℕ) (r : Labelled) : Type 0 where
@@ -63,6 +64,10 @@ pub record RefusalLine (n : ℕ) (l : List ℕ) : Type 0 where
   pub printed : Printed n digits
   pub is : l ≡ refused ++ digits ++ 10 ∷ []
 
+pub record RefusalRoom (out : List ℕ) (n : ℕ) : Type 0 where
+  pub short : Short n
+  pub room : length refused + 5 ≤ length out
+
 -- The sheet has row y whole, and the part of the output just the room for it and LF.
 pub record RowRoom (s : List ℕ) (w y : ℕ) (out : List ℕ) : Type 0 where
   pub whole : y * w + w ≤ length s
@@ -70,6 +75,7 @@ pub record RowRoom (s : List ℕ) (w y : ℕ) (out : List ℕ) : Type 0 where
 
 -- The sheet has the map's size, and the part of the output just the room for its rows.
 pub record RowsRoom (s : List ℕ) (w h : ℕ) (out : List ℕ) : Type 0 where
+  pub sides : Sides w h
   pub size : length s ≡ h * w
   pub room : length out ≡ h * (w + 1)
 
@@ -95,3 +101,8 @@ pub record MarkersShown (w h : ℕ) (xs ys : List ℕ) (count : ℕ) (text : Lis
 pub record MapRoom (w h : ℕ) (xs ys : List ℕ) (count : ℕ) (sheet out : List ℕ) : Type 0 where
   pub stamp : MayStamp w h xs ys count sheet
   pub room : 25 + h * (w + 1) ≤ length out
+
+-- The file is no longer than the program takes, and there is room for the text of the largest map.
+pub record FileRoom (file out : List ℕ) : Type 0 where
+  pub limit : length file ≤ most-bytes
+  pub room : 25 + side * (side + 1) ≤ length out

@@ -1,0 +1,2 @@
+-- Laws that the proofs of the program's functions share.
+mod Putting
