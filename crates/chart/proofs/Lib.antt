@@ -1,2 +1,3 @@
 -- Laws that the proofs of the program's functions share.
 mod Putting
+mod Lines
