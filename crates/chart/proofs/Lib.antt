@@ -1,3 +1,4 @@
 -- Laws that the proofs of the program's functions share.
 mod Putting
 mod Lines
+mod Showing

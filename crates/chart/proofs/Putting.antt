@@ -2,11 +2,12 @@
 -- fills its own.
 use mathlib.Core.Path.{_≡_, sym, ap, _∙_}
 use mathlib.Core.List.{List, _++_, append-assoc}
-use Prim.Native.Nat.{ℕ, _+_, _≤_}
+use Prim.Native.Nat.{ℕ, _+_, _-_, _≤_}
 use native.Mathlib.Omega.{arith}
 use lib.ListN.{length, take, drop, length-append, take-append-drop}
 use lib.Seq.{length-take-le, take-at, drop-append-add, drop-drop}
-use Rattle.writer.proofs.Filling.{Filled, filled-length}
+use borrow.Rule.Slice.PartMut.{midOf, putMid}
+use Rattle.writer.proofs.Filling.{Filled, filled-length, filled-part}
 use Rattle.chart.specs.Parts.{Put}
 
 -- The output as it is, up to a place.
@@ -21,6 +22,13 @@ filled-put out at end piece after h f =
       fits = f .within;
       is = f .is ∙ append-assoc (take at out) piece (drop end out);
     }
+
+-- A part of the output that was lent is back.
+pub part-put : (out : List ℕ) (at end : ℕ) (part : List ℕ) → at ≤ end → end ≤ length out → length part ≡ length (midOf at (end - at) out)
+    → Put out at part (putMid at (end - at) out part) end
+part-put out at end part h l kept =
+    let whole : at ≤ length out = omega arith in
+    filled-put out at end part _ whole (filled-part (take at out) at out out (filled-self at out whole) end part h l kept)
 
 -- A piece put at the front, and the other way round.
 pub put-front : {out piece after : List ℕ} {end : ℕ} → Put out 0 piece after end → Filled piece end out after

@@ -1,64 +1,88 @@
+-- `put_map` meets its contract: the sheet is stamped and labelled, and the first line and the picture follow each other in the output.
+use native.Mathlib.Omega.{arith}
+use Prim.Native.Nat.{_+_, _*_, _≤_}
+use lib.ListN.{length}
+use Rattle.field.specs.Map.{side}
+use Rattle.chart.proofs.Putting.{part-put}
+use Rattle.chart.proofs.Showing.{side-short, count-short, map-put}
 use borrow.Author.Needs.{needs}
 use Rattle.chart.proofs.put_map.Statement.{statement}
 use Rattle.chart.proofs.put_map.Tie as tie
-use Rattle.chart.proofs.put_map.Reads as reads
-use Rattle.chart.proofs.put_map.Lts as lts
-use Rattle.chart.proofs.put_line.Reads as put-line-reads
-use Rattle.chart.proofs.put_rows.Reads as put-rows-reads
-use Rattle.labels.proofs.label.Reads as label-reads
-use Rattle.markers.proofs.stamp.Reads as stamp-reads
 
--- src/lib.rt:103:5
+-- The way back from each call to the one before, and to where the function began.
+abbrev start : tie.After-stamp → tie.Start
+start c = c .before .before .before .before .before .before
+
+abbrev stamped : tie.After-label → tie.After-stamp
+stamped c = c .before .before .before .before
+
+abbrev labelled : tie.After-put-line → tie.After-label
+labelled c = c .before .before .before .before
+
+abbrev lined : tie.After-put-rows → tie.After-put-line
+lined c = c .before .before .before .before .before
+
 stamp-requires : tie.Need-stamp-requires
 stamp-requires c κs = search needs
 
--- src/lib.rt:104:9
 label-requires : tie.Need-label-requires
 label-requires c κs = search needs
 
--- src/lib.rt:105:9
 put-line-requires : tie.Need-put-line-requires
-put-line-requires c κs = ?
+put-line-requires c κs =
+    let l = c .before .before .before in
+    let a = start (stamped l) .args in
+    let p = start (stamped l) .pre in
+    let sides = p .stamp .sides in
+    record {
+      width = side-short (a .w) (sides .most-w);
+      height = side-short (a .h) (sides .most-h);
+      rocks = count-short sides (l .label .ensures .rocks);
+      shut = count-short sides (l .label .ensures .shut);
+      groups = count-short sides (l .label .ensures .groups);
+      room = omega (arith, p .room);
+    }
 
--- src/lib.rt:106:28
 add-end : tie.Need-add-end
-add-end c = ?
+unfolding side
+add-end c = omega (arith, start (stamped (labelled (c .before .before))) .pre .stamp .sides .most-w)
 
--- src/lib.rt:106:23
 mul-end : tie.Need-mul-end
 mul-end c = search needs
 
--- src/lib.rt:106:15
 add-end-2 : tie.Need-add-end-2
 add-end-2 c = search needs
 
--- src/lib.rt:107:14
 sub-put-rows : tie.Need-sub-put-rows
 sub-put-rows c = search needs
 
--- src/lib.rt:107:14
 part-put-rows-start : tie.Need-part-put-rows-start
 part-put-rows-start c = search needs
 
--- src/lib.rt:107:14
 part-put-rows-end : tie.Need-part-put-rows-end
 part-put-rows-end c = search needs
 
--- src/lib.rt:107:5
 put-rows-requires : tie.Need-put-rows-requires
 put-rows-requires c κs = search needs
 
--- src/lib.rt:91:1
 same-length : tie.Need-same-length
 same-length c = search needs
 
--- src/lib.rt:91:1
 same-length-2 : tie.Need-same-length-2
 same-length-2 c = search needs
 
--- src/lib.rt:91:1
 returns : tie.Need-returns
-returns c = ?
+returns c =
+    let rows = c .before .before .put-rows in
+    let line = lined (c .before .before) .put-line in
+    let l = labelled (lined (c .before .before)) in
+    let a = start (stamped l) .args in
+    let end = line .result + a .h * (a .w + 1) in
+    let reach : line .result ≤ 25 = omega (arith, line .ensures .put .size, line .ensures .right .few) in
+    let room : end ≤ length (line .last .0) = omega (arith, reach, start (stamped l) .pre .room, line .kept .0) in
+    let after : line .result ≤ end = omega arith in
+    map-put (l .label .ensures) (stamped l .stamp .ensures) (line .ensures) (rows .ensures)
+    (part-put (line .last .0) (line .result) end (rows .last .0) after room (rows .kept .0))
 
 pub put-map-spec : {M : Type 1} → statement M
 put-map-spec =
