@@ -2,3 +2,4 @@
 mod Putting
 mod Lines
 mod Showing
+mod Reading
