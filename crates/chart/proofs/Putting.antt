@@ -5,7 +5,7 @@ use mathlib.Core.List.{List, _++_, append-assoc}
 use Prim.Native.Nat.{ℕ, _+_, _-_, _≤_}
 use native.Mathlib.Omega.{arith}
 use lib.ListN.{length, take, drop, length-append, take-append-drop}
-use lib.Seq.{length-take-le, take-at, drop-append-add, drop-drop}
+use lib.Seq.{length-take-le, take-at, drop-at, drop-append-add, drop-drop}
 use borrow.Rule.Slice.PartMut.{midOf, putMid}
 use Rattle.writer.proofs.Filling.{Filled, filled-length, filled-part}
 use Rattle.chart.specs.Parts.{Put}
@@ -60,3 +60,9 @@ filled-more front piece at end out mid after f p =
     behind =
         ap (drop end) (f .is) ∙ ap (λ (n : ℕ). drop n (front ++ drop at out)) place ∙ drop-append-add front (drop at out) (length piece)
         ∙ drop-drop (length piece) at out ∙ ap (λ (n : ℕ). drop n out) place-out
+
+-- What is put at the front is the front, and the rest of the output stays.
+pub put-told : {out piece after : List ℕ} {end : ℕ} → Put out 0 piece after end → (take end after ≡ piece) × (drop end after ≡ drop end out)
+put-told {out} {piece} {after} {end} p =
+    let size : length piece ≡ end = omega (arith, p .size) in
+    (ap (take end) (p .is) ∙ take-at piece (drop end out) end size, ap (drop end) (p .is) ∙ drop-at piece (drop end out) end size)
