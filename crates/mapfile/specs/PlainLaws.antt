@@ -6,7 +6,7 @@ use Prim.Native.Nat.{ℕ, suc, _+_, _*_, _-_, _<_, _≤_}
 use native.Mathlib.Omega.{arith}
 use native.Mathlib.Decide.{decLt}
 use lib.ListN.{length, getD, take, drop, length-drop, take-append-drop}
-use lib.Seq.{getD-drop}
+use lib.Seq.{getD-drop, take-length}
 use Rattle.mapfile.specs.Header.{Digit, Number, valueFrom}
 use Rattle.mapfile.specs.Written.{Plain}
 
@@ -52,7 +52,12 @@ front-some (d ∷ l) (suc n) p z m h =
     let x : Digit d = p 0 (omega arith) in
     value-some (0 * 10 + (d - 48)) (take n l) (omega (arith, z))
 
--- So a plain number has no more digits than any other of its value.
+-- So a number with no leading zeros is not 0.
+pub plain-some : (v : ℕ) (l : List ℕ) → Plain v l → 1 ≤ v
+plain-some v l p =
+    omega (arith, rw (take-length l) at (front-some l (length l) (p .number .digits) (p .leading) (p .number .some) (p .number .some)), p .number .value)
+
+-- And it has no more digits than any other of its value.
 plain-shortest : (v : ℕ) (l k : List ℕ) → Plain v l → Number v k → ¬ (length k < length l)
 plain-shortest v l k p q h = clash (value-same 0 (valueFrom 0 front) k back (q .digits) digits size same .0)
   where

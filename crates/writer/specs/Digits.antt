@@ -3,15 +3,15 @@ use mathlib.Core.List.{List, [], _∷_, _++_}
 use Prim.Native.Nat.{ℕ, zero, suc, _+_, _-_, _/_, _%_, _^_, _<_, _≤_}
 use Rattle.mapfile.specs.File.{raw-letters}
 
--- A number from 1 on that three digits hold.
+-- A number from 1 on that four digits hold.
 pub record ShortNumber (v : ℕ) : Type 0 where
   pub some : 1 ≤ v
-  pub short : v < 1000
+  pub short : v < 10000
 
 -- n digits hold the number, and n - 1 do not.
 pub record DigitCount (v n : ℕ) : Type 0 where
   pub some : 1 ≤ n
-  pub few : n ≤ 3
+  pub few : n ≤ 4
   pub enough : v < 10 ^ n
   pub needed : 10 ^ (n - 1) ≤ v
 

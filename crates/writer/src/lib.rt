@@ -15,8 +15,8 @@ pub enum Wrote {
     Short,
 }
 
-// How many decimal digits a number has. The numbers here are widths and heights: a thousand is past every limit.
-fn digit_count(v: usize) -> usize
+// How many decimal digits a number has. Widths, heights and numbers of crossings have at most four.
+pub fn digit_count(v: usize) -> usize
     requires { ⌜ ShortNumber v ⌝ }
     ensures { λ r. ⌜ DigitCount v r ⌝ }
 {
@@ -26,7 +26,10 @@ fn digit_count(v: usize) -> usize
     if v < 100 {
         return 2;
     }
-    3
+    if v < 1000 {
+        return 3;
+    }
+    4
 }
 
 // One decimal digit, of a number below ten.
@@ -38,7 +41,7 @@ fn digit(d: usize) -> u8
 }
 
 // Fills the slice with the lowest digits of a number, as many as it has room for, from its end.
-fn write_number(out: &mut [u8], v: usize)
+pub fn write_number(out: &mut [u8], v: usize)
     ensures { λ _. ⌜ now (out .exit) ≡ digitsOf (length (now (out .entry))) v ⌝ }
 {
     let mut k = out.len();

@@ -16,7 +16,7 @@ use borrow.Author.Needs.{needs}
 use Rattle.writer.proofs.write.Statement.{statement}
 use Rattle.writer.proofs.write.Tie as tie
 
--- A side is a short number: a thousand is past the limit.
+-- A side is a short number: ten thousand is past the limit.
 side-short : (v : ℕ) → 1 ≤ v → v ≤ side → ShortNumber v
 unfolding side
 side-short v p q = record { some = p; short = omega arith }

@@ -1,0 +1,87 @@
+-- A sheet stamped and labelled gives the text of the map, and the text depends on which crossings are rocks and not on how that is said.
+use mathlib.Core.Path.{_≡_, refl, _∙_}
+use mathlib.Core.List.{List, _++_}
+use Prim.Native.Nat.{ℕ, _+_, _*_, _<_, _≤_}
+use native.Mathlib.Omega.{arith}
+use Rattle.field.specs.Map.{side, Sides}
+use Rattle.field.specs.Labels.{Rock, RockOn, Label, is-open, is-rock, is-shut, Count}
+use Rattle.field.specs.Workings.Sheet.{Draws}
+use Rattle.field.specs.Workings.SameLaws.{Alike, open-same, closed-same, shut-same, label-sheet-same, count-alike, groups-same}
+use Rattle.labels.specs.declared.Labelled.{Labelled}
+use Rattle.labels.specs.Promise.{Stones, Labels}
+use Rattle.markers.specs.List.{inUse}
+use Rattle.markers.specs.Promise.{listOf, Parallel, StampedWith}
+use Rattle.reader.proofs.Limits.{crossings-few}
+use Rattle.chart.specs.Promise.{Picture}
+use Rattle.chart.specs.Parts.{Put, Puts, Short, FirstLine, Shown, MarkersShown}
+use Rattle.chart.specs.Drawing.{pictureOf}
+use Rattle.chart.specs.DrawingLaws.{picture-drawn}
+use Rattle.chart.specs.CountLaws.{count-few}
+use Rattle.chart.proofs.Putting.{put-front, front-put, filled-more}
+
+-- A side is a short number, and so is a number of crossings.
+pub side-short : (v : ℕ) → v ≤ side → Short v
+unfolding Short side
+side-short v l = omega arith
+
+pub count-short : {w h n : ℕ} {P : ℕ → ℕ → Type 0} → Sides w h → Count w h P n → Short n
+unfolding Short
+count-short {w} {h} s c = omega (arith, count-few w h c, crossings-few s)
+
+-- Rocks that agree on the map.
+module _ (w h : ℕ) {R S : ℕ → ℕ → Type 0} (a : Alike (RockOn R w h) (RockOn S w h)) where
+  label-alike : {x y b : ℕ} → Label R w h x y b → Label S w h x y b
+  label-alike (is-open e o) = is-open e (open-same w h (closed-same w h a) o)
+  label-alike {x} {y} (is-rock e r) = is-rock e (a x y .0 r)
+  label-alike {x} {y} (is-shut e t) = is-shut e (shut-same w h a x y .0 t)
+
+  picture-alike : {l : List ℕ} → Picture R w h l → Picture S w h l
+  picture-alike p = record { size = p .size; sign = λ r x u v. let s = p .sign r x u v in (s .0, label-alike (s .1), s .2); end = p .end }
+
+  pub shown-alike : {text : List ℕ} → Shown R w h text → Shown S w h text
+  shown-alike t =
+      record {
+        rocks = t .rocks;
+        shut = t .shut;
+        groups = t .groups;
+        line = t .line;
+        picture = t .picture;
+        rocks-are = count-alike w h a (t .rocks-are);
+        shut-are = count-alike w h (shut-same w h a) (t .shut-are);
+        groups-are = groups-same w h (closed-same w h a) (t .groups-are);
+        line-is = t .line-is;
+        picture-is = picture-alike (t .picture-is);
+        is = t .is;
+      }
+
+-- The rocks stamped on a sheet are those that it draws.
+stones-alike : {w h : ℕ} {R : ℕ → ℕ → Type 0} {s : List ℕ} → Draws w h (RockOn R w h) s → Alike (RockOn (Stones w h s) w h) (RockOn R w h)
+stones-alike d x y = (λ r. d .sound x y (r .stone), λ r. record { on = r .on; stone = d .complete x y r })
+
+module _ {w h : ℕ} {s t : List ℕ} {r : Labelled} (l : Labels w h s t r) where
+  -- The text of the stamped rocks.
+  stones-shown : {line : List ℕ} → FirstLine w h r line → Shown (Stones w h s) w h (line ++ pictureOf t w h)
+  stones-shown {line} f =
+      record {
+        rocks = r .rocks;
+        shut = r .shut;
+        groups = r .groups;
+        line = line;
+        picture = pictureOf t w h;
+        rocks-are = l .rocks;
+        shut-are = l .shut;
+        groups-are = l .groups;
+        line-is = f .line;
+        picture-is = picture-drawn t w h (Stones w h s) (l .sheet);
+        is = refl;
+      }
+
+  -- First line and picture in the output are the text of the map.
+  pub map-put : {xs ys out mid rows after : List ℕ} {count start end : ℕ} → StampedWith w h xs ys count s → Puts (FirstLine w h r) out 0 mid start
+      → rows ≡ pictureOf t w h → Put mid start rows after end → Puts (MarkersShown w h xs ys count) out 0 after end
+  map-put {xs} {ys} {out} {mid} {rows} {after} {count} {start} {end} stamped p e q =
+      record {
+        piece = p .piece ++ pictureOf t w h;
+        right = record { shown = λ ids parallel. shown-alike w h (stones-alike (stamped .rocks ids parallel)) (stones-shown (p .right)) };
+        put = front-put (filled-more (p .piece) (pictureOf t w h) start end out mid after (put-front (p .put)) (rw e at q));
+      }

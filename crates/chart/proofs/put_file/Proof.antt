@@ -1,0 +1,122 @@
+-- `put_file` meets its contract: the reader refuses the file, and its number is told; or the map that it finds is shown.
+use native.Mathlib.Omega.{arith}
+use mathlib.Core.Path.{_≡_, refl, sym}
+use Prim.Native.Nat.{ℕ, _*_, _≤_}
+use lib.ListN.{length}
+use lib.Seq.{length-take-le}
+use Rattle.field.specs.Map.{side, Sides}
+use Rattle.markers.specs.Promise.{listOf}
+use Rattle.reader.specs.Promise.{Taken}
+use Rattle.reader.proofs.Limits.{crossings-few}
+use Rattle.chart.specs.Parts.{Short}
+use Rattle.chart.proofs.Reading.{reads-map, reads-refused, turned-fault, fault-text, taken-stamp, map-text, text-few}
+use borrow.Author.Needs.{needs}
+use Rattle.chart.proofs.put_file.Statement.{statement}
+use Rattle.chart.proofs.put_file.Tie as tie
+
+-- Where the function began, and where the reader has answered with a map.
+abbrev start : tie.After-read → tie.Start
+start c = c .before .before .before .before .before .before
+
+abbrev answered : tie.After-reading → tie.After-read
+answered c = c .before .before .before .before .before
+
+abbrev refused : tie.After-reading2 → tie.After-read
+refused c = c .before .before .before .before .before
+
+sides : (c : tie.After-reading) → Sides (c .reading .given .0 .0) (c .reading .given .0 .1 .0)
+sides c = reads-map (answered c .read .ensures .1) (c .reading .given .1) .map .sides
+
+slice-aggregate-read : tie.Need-slice-aggregate-read
+slice-aggregate-read c = search needs
+
+slice-aggregate-read-2 : tie.Need-slice-aggregate-read-2
+slice-aggregate-read-2 c = search needs
+
+slice-aggregate-read-3 : tie.Need-slice-aggregate-read-3
+slice-aggregate-read-3 c = search needs
+
+read-requires : tie.Need-read-requires
+read-requires c κs = search needs
+
+enum-known-reading : tie.Need-enum-known-reading
+enum-known-reading c = search needs
+
+mul-size : tie.Need-mul-size
+mul-size c = omega (arith, crossings-few (sides (c .before)))
+
+array-borrow-prefix-sheet : tie.Need-array-borrow-prefix-sheet
+array-borrow-prefix-sheet c = crossings-few (sides (c .before .before))
+
+slice-aggregate-put-map : tie.Need-slice-aggregate-put-map
+slice-aggregate-put-map c = sym (length-take-le _ _ (crossings-few (sides (c .before .before .before))))
+
+slice-aggregate-put-map-2 : tie.Need-slice-aggregate-put-map-2
+slice-aggregate-put-map-2 c = search needs
+
+slice-aggregate-put-map-3 : tie.Need-slice-aggregate-put-map-3
+slice-aggregate-put-map-3 c = search needs
+
+put-map-requires : tie.Need-put-map-requires
+put-map-requires c κs =
+    let g = c .before .before .before .before .before in
+    let r = answered g .read in
+    let taken = reads-map (r .ensures .1) (g .reading .given .1) in
+    record {
+      stamp = taken-stamp (r .last .1 .0) (r .last .1 .1 .0) (r .last .1 .1 .1 .0) (r .ensures .0) taken _ (length-take-le _ _ (crossings-few (sides g)));
+      room = text-few (sides g) (start (answered g) .pre .room);
+    }
+
+enum-known-reading-2 : tie.Need-enum-known-reading-2
+enum-known-reading-2 c = search needs
+
+cast-put-refusal : tie.Need-cast-put-refusal
+cast-put-refusal c = search needs
+
+put-refusal-requires : tie.Need-put-refusal-requires
+unfolding Short side
+put-refusal-requires c κs = record { short = omega arith; room = omega (arith, start (refused (c .before .before)) .pre .room) }
+
+same-length : tie.Need-same-length
+same-length c = search needs
+
+returns : tie.Need-returns
+returns c =
+    let m = c .before .before .before in
+    let g = m .before .before .before .before .before .before in
+    let r = answered g .read in
+    let taken = reads-map (r .ensures .1) (g .reading .given .1) in
+    map-text (r .last .1 .0) (r .last .1 .1 .0) (r .last .1 .1 .1 .0) (r .ensures .0) taken (start (answered g) .pre .limit) (m .put-map .ensures)
+
+same-length-2 : tie.Need-same-length-2
+same-length-2 c = search needs
+
+returns-2 : tie.Need-returns-2
+returns-2 c =
+    let m = c .before .before in
+    let g = m .before .before .before in
+    let r = refused g .read in
+    fault-text (start (refused g) .pre .limit) (turned-fault _ _ _ (record { as-xs = refl; as-ys = refl }) (omega arith) (reads-refused (r .ensures .1) (g .reading2 .given .1))) (m .put-refusal .ensures)
+
+pub put-file-spec : {M : Type 1} → statement M
+put-file-spec =
+    tie.close
+    (tie.spec
+    slice-aggregate-read
+    slice-aggregate-read-2
+    slice-aggregate-read-3
+    read-requires
+    enum-known-reading
+    mul-size
+    array-borrow-prefix-sheet
+    slice-aggregate-put-map
+    slice-aggregate-put-map-2
+    slice-aggregate-put-map-3
+    put-map-requires
+    enum-known-reading-2
+    cast-put-refusal
+    put-refusal-requires
+    same-length
+    returns
+    same-length-2
+    returns-2)

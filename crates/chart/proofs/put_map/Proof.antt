@@ -1,0 +1,103 @@
+-- `put_map` meets its contract: the sheet is stamped and labelled, and the first line and the picture follow each other in the output.
+use native.Mathlib.Omega.{arith}
+use Prim.Native.Nat.{_+_, _*_, _≤_}
+use lib.ListN.{length}
+use Rattle.field.specs.Map.{side}
+use Rattle.chart.proofs.Putting.{part-put}
+use Rattle.chart.proofs.Showing.{side-short, count-short, map-put}
+use borrow.Author.Needs.{needs}
+use Rattle.chart.proofs.put_map.Statement.{statement}
+use Rattle.chart.proofs.put_map.Tie as tie
+
+-- The way back from each call to the one before, and to where the function began.
+abbrev start : tie.After-stamp → tie.Start
+start c = c .before .before .before .before .before .before
+
+abbrev stamped : tie.After-label → tie.After-stamp
+stamped c = c .before .before .before .before
+
+abbrev labelled : tie.After-put-line → tie.After-label
+labelled c = c .before .before .before .before
+
+abbrev lined : tie.After-put-rows → tie.After-put-line
+lined c = c .before .before .before .before .before
+
+stamp-requires : tie.Need-stamp-requires
+stamp-requires c κs = search needs
+
+label-requires : tie.Need-label-requires
+label-requires c κs = search needs
+
+put-line-requires : tie.Need-put-line-requires
+put-line-requires c κs =
+    let l = c .before .before .before in
+    let a = start (stamped l) .args in
+    let p = start (stamped l) .pre in
+    let sides = p .stamp .sides in
+    record {
+      width = side-short (a .w) (sides .most-w);
+      height = side-short (a .h) (sides .most-h);
+      rocks = count-short sides (l .label .ensures .rocks);
+      shut = count-short sides (l .label .ensures .shut);
+      groups = count-short sides (l .label .ensures .groups);
+      room = omega (arith, p .room);
+    }
+
+add-end : tie.Need-add-end
+unfolding side
+add-end c = omega (arith, start (stamped (labelled (c .before .before))) .pre .stamp .sides .most-w)
+
+mul-end : tie.Need-mul-end
+mul-end c = search needs
+
+add-end-2 : tie.Need-add-end-2
+add-end-2 c = search needs
+
+sub-put-rows : tie.Need-sub-put-rows
+sub-put-rows c = search needs
+
+part-put-rows-start : tie.Need-part-put-rows-start
+part-put-rows-start c = search needs
+
+part-put-rows-end : tie.Need-part-put-rows-end
+part-put-rows-end c = search needs
+
+put-rows-requires : tie.Need-put-rows-requires
+put-rows-requires c κs = search needs
+
+same-length : tie.Need-same-length
+same-length c = search needs
+
+same-length-2 : tie.Need-same-length-2
+same-length-2 c = search needs
+
+returns : tie.Need-returns
+returns c =
+    let rows = c .before .before .put-rows in
+    let line = lined (c .before .before) .put-line in
+    let l = labelled (lined (c .before .before)) in
+    let a = start (stamped l) .args in
+    let end = line .result + a .h * (a .w + 1) in
+    let reach : line .result ≤ 25 = omega (arith, line .ensures .put .size, line .ensures .right .few) in
+    let room : end ≤ length (line .last .0) = omega (arith, reach, start (stamped l) .pre .room, line .kept .0) in
+    let after : line .result ≤ end = omega arith in
+    map-put (l .label .ensures) (stamped l .stamp .ensures) (line .ensures) (rows .ensures)
+    (part-put (line .last .0) (line .result) end (rows .last .0) after room (rows .kept .0))
+
+pub put-map-spec : {M : Type 1} → statement M
+put-map-spec =
+    tie.close
+    (tie.spec
+    stamp-requires
+    label-requires
+    put-line-requires
+    add-end
+    mul-end
+    add-end-2
+    sub-put-rows
+    part-put-rows-start
+    part-put-rows-end
+    put-rows-requires
+    same-length
+    same-length-2
+    returns)

@@ -1,0 +1,154 @@
+-- The program has one text for a file: a number is printed in one way, a line is made of its numbers, and a picture's signs are those of the labels.
+use mathlib.Core.Path.{_≡_, refl, sym, ap, _∙_}
+use mathlib.Core.List.{List, [], _∷_, _++_}
+use Prim.Native.Nat.{ℕ, _+_, _*_, _-_, _<_, _≤_}
+use native.Mathlib.Omega.{arith}
+use native.Mathlib.Decide.{decLt}
+use lib.ListN.{length, getD}
+use lib.Seq.{ext-getD}
+use Rattle.field.specs.Workings.Sheet.{Crossing, crossing}
+use Rattle.field.specs.Workings.Labelling.{label-one}
+use Rattle.field.specs.Workings.Counting.{count-one}
+use Rattle.mapfile.specs.File.{MapFile, FileRock}
+use Rattle.mapfile.specs.FileLaws.{map-file-one, fault-one, fault-no-map}
+use Rattle.mapfile.specs.PlainLaws.{plain-one, plain-some}
+use Rattle.chart.specs.Promise.{
+  Printed,
+  nought,
+  digits,
+  Line,
+  last-number,
+  next-number,
+  Sign,
+  open-sign,
+  rock-sign,
+  shut-sign,
+  Picture,
+  refused,
+  Charted,
+  too-long,
+  at-fault,
+  shown,
+}
+use Rattle.chart.specs.Parts.{Shown}
+
+printed-one : {v : ℕ} {l k : List ℕ} → Printed v l → Printed v k → l ≡ k
+printed-one (nought e p) (nought f q) = p ∙ sym q
+printed-one {v} {l} {k} (nought e p) (digits q) = absurd (omega (arith, plain-some v k q))
+printed-one {v} {l} {k} (digits p) (nought f q) = absurd (omega (arith, plain-some v l p))
+printed-one {v} {l} {k} (digits p) (digits q) = plain-one v l k p q
+
+-- A line has a number.
+line-some : {vs l : List ℕ} → Line vs l → ¬ (vs ≡ [])
+line-some (last-number v d p e f) n = let z : _≡_ {A = ℕ} 0 1 = cc in omega arith
+line-some (next-number v d k p t e f) n = let z : _≡_ {A = ℕ} 0 1 = cc in omega arith
+
+line-one : {vs us l k : List ℕ} → vs ≡ us → Line vs l → Line us k → l ≡ k
+line-one s (last-number v d p e f) (last-number v′ d′ p′ e′ f′) =
+    let same : v ≡ v′ = cc in
+    let number : d ≡ d′ = printed-one p (rw same p′) in
+    f ∙ rw number (sym f′)
+line-one s (last-number v d p e f) (next-number {us} v′ d′ k′ p′ t′ e′ f′) = absurd (line-some t′ (cc))
+line-one s (next-number {us} v d k p t e f) (last-number v′ d′ p′ e′ f′) = absurd (line-some t (cc))
+line-one s (next-number {us = ws} v d k p t e f) (next-number {us = ws′} v′ d′ k′ p′ t′ e′ f′) =
+    let same : v ≡ v′ = cc in
+    let rest : ws ≡ ws′ = cc in
+    let number : d ≡ d′ = printed-one p (rw same p′) in
+    let line : k ≡ k′ = line-one rest t t′ in
+    f ∙ rw (number, line) (sym f′)
+
+sign-one : {b c d : ℕ} → Sign b c → Sign b d → c ≡ d
+sign-one (open-sign e p) (open-sign f q) = p ∙ sym q
+sign-one (open-sign e p) (rock-sign f q) = absurd (omega arith)
+sign-one (open-sign e p) (shut-sign f q) = absurd (omega arith)
+sign-one (rock-sign e p) (open-sign f q) = absurd (omega arith)
+sign-one (rock-sign e p) (rock-sign f q) = p ∙ sym q
+sign-one (rock-sign e p) (shut-sign f q) = absurd (omega arith)
+sign-one (shut-sign e p) (open-sign f q) = absurd (omega arith)
+sign-one (shut-sign e p) (rock-sign f q) = absurd (omega arith)
+sign-one (shut-sign e p) (shut-sign f q) = p ∙ sym q
+
+module _ (R : ℕ → ℕ → Type 0) (w h : ℕ) where
+  -- Each byte of a picture is the sign of a crossing, or the LF at the end of a row.
+  picture-one : {l k : List ℕ} → Picture R w h l → Picture R w h k → l ≡ k
+  picture-one {l} {k} p q = ext-getD 0 l k (p .size ∙ sym (q .size)) (λ i m. by-place i (crossing (w + 1) h i (omega (arith, p .size))))
+    where
+      at-sign : (r x : ℕ) → r < h → x < w → getD l (r * (w + 1) + x) 0 ≡ getD k (r * (w + 1) + x) 0
+      at-sign r x a b =
+          let s = p .sign r x a b in
+          let t = q .sign r x a b in
+          let label : t .0 ≡ s .0 = label-one R w h x (h - (r + 1)) (t .0) (s .0) (t .1) (s .1) in
+          sign-one (s .2) (rw label at (t .2))
+
+      go : (r x : ℕ) → r < h → x < w + 1 → Dec (x < w) → getD l (r * (w + 1) + x) 0 ≡ getD k (r * (w + 1) + x) 0
+      go r x a b (yes m) = at-sign r x a m
+      go r x a b (no m) =
+          let last : x ≡ w = omega arith in
+          rw last (p .end r a ∙ sym (q .end r a))
+
+      by-place : (i : ℕ) → Crossing (w + 1) h i → getD l i 0 ≡ getD k i 0
+      by-place i c = rw (c .is) at (go (c .y) (c .x) (c .on .in-y) (c .on .in-x) (decLt (c .x) w))
+
+  shown-one : {text other : List ℕ} → Shown R w h text → Shown R w h other → text ≡ other
+  shown-one {text} {other} p q =
+      let rocks : p .rocks ≡ q .rocks = count-one w h (p .rocks-are) (q .rocks-are) in
+      let shut : p .shut ≡ q .shut = count-one w h (p .shut-are) (q .shut-are) in
+      let groups : p .groups ≡ q .groups = count-one w h (p .groups-are) (q .groups-are) in
+      let line : p .line ≡ q .line = line-one (cc) (p .line-is) (q .line-is) in
+      let picture : p .picture ≡ q .picture = picture-one (p .picture-is) (q .picture-is) in
+      p .is ∙ rw (line, picture) (sym (q .is))
+
+-- The text of one map, said of another that is the same.
+shown-moved : {w h w′ h′ : ℕ} {bits bits′ text : List ℕ} → w ≡ w′ → h ≡ h′ → bits ≡ bits′ → Shown (FileRock w′ h′ bits′) w′ h′ text
+    → Shown (FileRock w h bits) w h text
+shown-moved p q r s = rw (p, q, r) s
+
+-- Two texts that the promise allows for a file are equal.
+pub charted-one : {file text other : List ℕ} → Charted file text → Charted file other → text ≡ other
+charted-one (too-long l e) (too-long m f) = e ∙ sym f
+charted-one (too-long l e) (at-fault n d m t p f) = absurd (omega arith)
+charted-one (too-long l e) (shown w h rocks shut groups bits line picture m g a b c u v f) = absurd (omega arith)
+charted-one (at-fault n d l t p e) (too-long m f) = absurd (omega arith)
+charted-one (at-fault n d l t p e) (at-fault n′ d′ m t′ p′ f) =
+    let number : n ≡ n′ = fault-one t t′ in
+    let printed : d ≡ d′ = printed-one p (rw number p′) in
+    e ∙ rw printed (sym f)
+charted-one (at-fault n d l t p e) (shown w h rocks shut groups bits line picture m g a b c u v f) = absurd (fault-no-map t g)
+charted-one (shown w h rocks shut groups bits line picture l g a b c u v e) (too-long m f) = absurd (omega arith)
+charted-one (shown w h rocks shut groups bits line picture l g a b c u v e) (at-fault n d m t p f) = absurd (fault-no-map t g)
+charted-one {file} {text} {other} (shown w h rocks shut groups bits line picture l g a b c u v e)
+    (shown w′ h′ rocks′ shut′ groups′ bits′ line′ picture′ m g′ a′ b′ c′ u′ v′ f) =
+    let same = map-file-one g g′ in
+    shown-one (FileRock w h bits) w h one (shown-moved (same .0) (same .1) (same .2) two)
+  where
+    one : Shown (FileRock w h bits) w h text
+    one =
+        record {
+          rocks = rocks;
+          shut = shut;
+          groups = groups;
+          line = line;
+          picture = picture;
+          rocks-are = a;
+          shut-are = b;
+          groups-are = c;
+          line-is = u;
+          picture-is = v;
+          is = e;
+        }
+
+    two : Shown (FileRock w′ h′ bits′) w′ h′ other
+    two =
+        record {
+          rocks = rocks′;
+          shut = shut′;
+          groups = groups′;
+          line = line′;
+          picture = picture′;
+          rocks-are = a′;
+          shut-are = b′;
+          groups-are = c′;
+          line-is = u′;
+          picture-is = v′;
+          is = f;
+        }

@@ -1,0 +1,108 @@
+-- What the program's functions put into the output, piece by piece.
+use mathlib.Core.Path.{_≡_}
+use mathlib.Core.List.{List, [], _∷_, _++_}
+use Prim.Native.Nat.{ℕ, _+_, _*_, _<_, _≤_}
+use lib.ListN.{length, take, drop}
+use Rattle.field.specs.Map.{side, Sides}
+use Rattle.field.specs.Labels.{Closed, Rock, RockOn, Shut, Count}
+use Rattle.field.specs.Groups.{Groups}
+use Rattle.labels.specs.declared.Labelled.{Labelled}
+use Rattle.markers.specs.List.{inUse}
+use Rattle.markers.specs.Promise.{listOf, Parallel, MayStamp}
+use Rattle.writer.specs.Digits.{digitsOf}
+use Rattle.chart.specs.Promise.{most-bytes, refused, Printed, Line, Picture}
+
+-- A piece stands in the output from a place on, up to its end. All else is as it was.
+pub record Put (out : List ℕ) (at : ℕ) (piece after : List ℕ) (end : ℕ) : Type 0 where
+  pub size : at + length piece ≡ end
+  pub fits : end ≤ length out
+  pub is : after ≡ take at out ++ (piece ++ drop end out)
+
+-- Some piece of a kind stands there.
+pub record Puts (P : List ℕ → Type 0) (out : List ℕ) (at : ℕ) (after : List ℕ) (end : ℕ) : Type 0 where
+  pub piece : List ℕ
+  pub right : P piece
+  pub put : Put out at piece after end
+
+-- A number that four digits hold: a side, a refusal, a number of crossings.
+unfoldable pub Short : ℕ → Type 0
+Short v = v < 10000
+
+-- So many of its lowest digits are the number as it is printed.
+pub record PrintedIn (v n : ℕ) : Type 0 where
+  pub few : n ≤ 4
+  pub printed : Printed v (digitsOf n v)
+
+-- A number as it is printed, and one byte after it: five bytes at most.
+pub record NumberThen (v mark : ℕ) (l : List ℕ) : Type 0 where
+  pub digits : List ℕ
+  pub printed : Printed v digits
+  pub few : length digits ≤ 4
+  pub is : l ≡ digits ++ mark ∷ []
+
+-- There is room for a number and one byte from a place on.
+pub record NumberRoom (out : List ℕ) (at v : ℕ) : Type 0 where
+  pub short : Short v
+  pub room : at + 5 ≤ length out
+
+-- The first line: five numbers, of five bytes at most each.
+pub record FirstLine (w h : ℕ) (r : Labelled) (l : List ℕ) : Type 0 where
+  pub line : Line (w ∷ h ∷ r .rocks ∷ r .shut ∷ r .groups ∷ []) l
+  pub few : length l ≤ 25
+
+pub record LineRoom (out : List ℕ) (w h : ℕ) (r : Labelled) : Type 0 where
+  pub width : Short w
+  pub height : Short h
+  pub rocks : Short (r .rocks)
+  pub shut : Short (r .shut)
+  pub groups : Short (r .groups)
+  pub room : 25 ≤ length out
+
+-- "A refusal prints one line, 'refused', a space and the number."
+pub record RefusalLine (n : ℕ) (l : List ℕ) : Type 0 where
+  pub digits : List ℕ
+  pub printed : Printed n digits
+  pub is : l ≡ refused ++ digits ++ 10 ∷ []
+
+pub record RefusalRoom (out : List ℕ) (n : ℕ) : Type 0 where
+  pub short : Short n
+  pub room : length refused + 5 ≤ length out
+
+-- The sheet has row y whole, and the part of the output just the room for it and LF.
+pub record RowRoom (s : List ℕ) (w y : ℕ) (out : List ℕ) : Type 0 where
+  pub whole : y * w + w ≤ length s
+  pub room : length out ≡ w + 1
+
+-- The sheet has the map's size, and the part of the output just the room for its rows.
+pub record RowsRoom (s : List ℕ) (w h : ℕ) (out : List ℕ) : Type 0 where
+  pub sides : Sides w h
+  pub size : length s ≡ h * w
+  pub room : length out ≡ h * (w + 1)
+
+-- The text of a map: its first line and its picture. R tells the rocks.
+pub record Shown (R : ℕ → ℕ → Type 0) (w h : ℕ) (text : List ℕ) : Type 0 where
+  pub rocks : ℕ
+  pub shut : ℕ
+  pub groups : ℕ
+  pub line : List ℕ
+  pub picture : List ℕ
+  pub rocks-are : Count w h (RockOn R w h) rocks
+  pub shut-are : Count w h (Shut R w h) shut
+  pub groups-are : Groups w h (Closed R w h) groups
+  pub line-is : Line (w ∷ h ∷ rocks ∷ shut ∷ groups ∷ []) line
+  pub picture-is : Picture R w h picture
+  pub is : text ≡ line ++ picture
+
+-- The text of a map whose rocks are the markers in use, whatever ids they bear.
+pub record MarkersShown (w h : ℕ) (xs ys : List ℕ) (count : ℕ) (text : List ℕ) : Type 0 where
+  pub shown : (ids : List ℕ) → Parallel ids xs ys → Shown (Rock (inUse (listOf ids xs ys) count)) w h text
+
+-- The markers can be stamped on the sheet, and there is room for the text of any map of this size.
+pub record MapRoom (w h : ℕ) (xs ys : List ℕ) (count : ℕ) (sheet out : List ℕ) : Type 0 where
+  pub stamp : MayStamp w h xs ys count sheet
+  pub room : 25 + h * (w + 1) ≤ length out
+
+-- The file is no longer than the program takes, and there is room for the text of the largest map.
+pub record FileRoom (file out : List ℕ) : Type 0 where
+  pub limit : length file ≤ most-bytes
+  pub room : 25 + side * (side + 1) ≤ length out

@@ -1,0 +1,53 @@
+-- What the labelling program prints. "First line: width, height, rock crossings, shut crossings, groups. Then rows from the north: . open, # rock, o
+-- shut. A refusal prints one line, 'refused', a space and the number. A program takes at most 65,536 input bytes; of a longer input it prints only
+-- 'refused long'."
+use mathlib.Core.Path.{_≡_}
+use mathlib.Core.List.{List, [], _∷_, _++_}
+use Prim.Native.Nat.{ℕ, _+_, _*_, _-_, _<_, _≤_}
+use lib.ListN.{length, getD}
+use Rattle.field.specs.Labels.{Closed, RockOn, Shut, Label, Count}
+use Rattle.field.specs.Groups.{Groups}
+use Rattle.mapfile.specs.File.{MapFile, FileRock, FileFault}
+use Rattle.mapfile.specs.Written.{Plain}
+
+-- "A program takes at most 65,536 input bytes"
+unfoldable pub most-bytes : ℕ
+most-bytes = 65536
+
+-- A number as it is printed: decimal digits with no leading zeros, and 0 as one digit.
+pub data Printed (v : ℕ) (l : List ℕ) : Type 0 where
+  nought : v ≡ 0 → l ≡ 48 ∷ [] → Printed v l
+  digits : Plain v l → Printed v l
+
+-- Numbers with a space between, and LF after the last.
+pub data Line : List ℕ → List ℕ → Type 0 where
+  last-number : {vs l : List ℕ} (v : ℕ) (d : List ℕ) → Printed v d → vs ≡ v ∷ [] → l ≡ d ++ 10 ∷ [] → Line vs l
+  next-number : {vs us l : List ℕ} (v : ℕ) (d k : List ℕ) → Printed v d → Line us k → vs ≡ v ∷ us → l ≡ d ++ 32 ∷ k → Line vs l
+
+-- ". open, # rock, o shut", by the label.
+pub data Sign (b c : ℕ) : Type 0 where
+  open-sign : b ≡ 0 → c ≡ 46 → Sign b c
+  rock-sign : b ≡ 1 → c ≡ 35 → Sign b c
+  shut-sign : b ≡ 2 → c ≡ 111 → Sign b c
+
+-- The rows from the north, each with LF after it: row r is that of y = h - 1 - r.
+pub record Picture (R : ℕ → ℕ → Type 0) (w h : ℕ) (l : List ℕ) : Type 0 where
+  pub size : length l ≡ h * (w + 1)
+  pub sign : (r x : ℕ) → r < h → x < w → (b : ℕ) × Label R w h x (h - (r + 1)) b × Sign b (getD l (r * (w + 1) + x) 0)
+  pub end : (r : ℕ) → r < h → getD l (r * (w + 1) + w) 0 ≡ 10
+
+-- "refused " and "refused long", each with LF after it.
+abbrev pub refused : List ℕ
+refused = 114 ∷ 101 ∷ 102 ∷ 117 ∷ 115 ∷ 101 ∷ 100 ∷ 32 ∷ []
+
+abbrev pub long : List ℕ
+long = 108 ∷ 111 ∷ 110 ∷ 103 ∷ 10 ∷ []
+
+-- The whole text for a file.
+pub data Charted (file text : List ℕ) : Type 0 where
+  too-long : most-bytes < length file → text ≡ refused ++ long → Charted file text
+  at-fault : (n : ℕ) (d : List ℕ) → length file ≤ most-bytes → FileFault file n → Printed n d → text ≡ refused ++ d ++ 10 ∷ [] → Charted file text
+  shown : (w h rocks shut groups : ℕ) (bits line picture : List ℕ) → length file ≤ most-bytes → MapFile file w h bits
+      → Count w h (RockOn (FileRock w h bits) w h) rocks → Count w h (Shut (FileRock w h bits) w h) shut
+      → Groups w h (Closed (FileRock w h bits) w h) groups → Line (w ∷ h ∷ rocks ∷ shut ∷ groups ∷ []) line
+      → Picture (FileRock w h bits) w h picture → text ≡ line ++ picture → Charted file text

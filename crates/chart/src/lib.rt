@@ -1,0 +1,159 @@
+// The labelling program's text: from the bytes of a map file to an output slice. Each piece of the text is written into its own part of the output,
+// and hands back where the next begins.
+ghost use Prim.Native.Nat.{ℕ, _≤_};
+ghost use lib.ListN.{length, take, drop};
+ghost use mathlib.Core.Path.{_≡_};
+ghost use mathlib.Core.List.{_++_};
+ghost use Rattle.chart.specs.Promise.{Charted};
+ghost use Rattle.chart.specs.Parts.{Put, Puts, Short, PrintedIn, NumberThen, NumberRoom, FirstLine, LineRoom, RefusalLine, RefusalRoom, RowRoom, RowsRoom, MarkersShown, MapRoom, FileRoom};
+ghost use Rattle.chart.specs.Drawing.{signOf, rowOf, pictureOf};
+
+// "A program takes at most 65,536 input bytes".
+const MOST_BYTES: usize = 65536;
+
+// The crossings of the largest map, and so its rocks.
+const MOST: usize = 4096;
+
+// How many digits a number is printed with: 0 has one.
+fn digits(v: usize) -> usize
+    requires { ⌜ Short v ⌝ }
+    ensures { λ r. ⌜ PrintedIn v r ⌝ }
+{
+    if v == 0 {
+        return 1;
+    }
+    writer::digit_count(v)
+}
+
+// Writes a number and one byte after it from the place `at` on, and hands back where they end.
+fn put_number(out: &mut [u8], at: usize, v: usize, mark: u8) -> usize
+    requires { ⌜ NumberRoom (now out) at v ⌝ }
+    ensures { λ r. ⌜ Puts (NumberThen v mark) (now (out .entry)) at (now (out .exit)) r ⌝ }
+{
+    let end = at + digits(v);
+    writer::write_number(&mut out[at..end], v);
+    out[end] = mark;
+    end + 1
+}
+
+// Writes the first line: width, height, rock crossings, shut crossings, groups.
+fn put_line(out: &mut [u8], w: usize, h: usize, found: labels::Labelled) -> usize
+    requires { ⌜ LineRoom (now out) w h found ⌝ }
+    ensures { λ r. ⌜ Puts (FirstLine w h found) (now (out .entry)) 0 (now (out .exit)) r ⌝ }
+{
+    let height = put_number(out, 0, w, b' ');
+    let rocks = put_number(out, height, h, b' ');
+    let shut = put_number(out, rocks, found.rocks, b' ');
+    let groups = put_number(out, shut, found.shut, b' ');
+    put_number(out, groups, found.groups, b'\n')
+}
+
+// The sign of a label: . open, # rock, o shut.
+fn sign(label: u8) -> u8
+    ensures { λ r. ⌜ r ≡ signOf label ⌝ }
+{
+    if label == 0 {
+        return b'.';
+    }
+    if label == 1 {
+        return b'#';
+    }
+    b'o'
+}
+
+// Draws row y of the map into its own part of the output, with LF after it.
+fn put_row(out: &mut [u8], sheet: &[u8], w: usize, y: usize)
+    requires { ⌜ RowRoom (now sheet) w y (now out) ⌝ }
+    ensures { λ _. ⌜ now (out .exit) ≡ rowOf (now (sheet .entry)) w y ⌝ }
+{
+    let from = y * w;
+    for x in 0..w {
+        out[x] = sign(sheet[from + x]);
+    }
+    out[w] = b'\n';
+}
+
+// Draws the rows from the north: each is lent its own part of the output.
+fn put_rows(out: &mut [u8], sheet: &[u8], w: usize, h: usize)
+    requires { ⌜ RowsRoom (now sheet) w h (now out) ⌝ }
+    ensures { λ _. ⌜ now (out .exit) ≡ pictureOf (now (sheet .entry)) w h ⌝ }
+{
+    let row = w + 1;
+    for r in 0..h {
+        let y = h - (r + 1);
+        let start = r * row;
+        let end = start + row;
+        put_row(&mut out[start..end], sheet, w, y);
+    }
+}
+
+// Labels the map on a lent sheet of its size, and writes its text: the first line, then the rows.
+fn put_map(
+    out: &mut [u8],
+    sheet: &mut [u8],
+    xs: &[u16],
+    ys: &[u16],
+    count: usize,
+    w: usize,
+    h: usize,
+) -> usize
+    requires { ⌜ MapRoom w h (now xs) (now ys) count (now sheet) (now out) ⌝ }
+    ensures { λ r. ⌜ Puts (MarkersShown w h (now (xs .entry)) (now (ys .entry)) count) (now (out .entry)) 0 (now (out .exit)) r ⌝ }
+{
+    markers::stamp(xs, ys, count, w, h, sheet);
+    let found = labels::label(sheet, w, h);
+    let start = put_line(out, w, h, found);
+    let end = start + h * (w + 1);
+    put_rows(&mut out[start..end], sheet, w, h);
+    end
+}
+
+// Writes these bytes at the front of the output, and hands back where they end.
+fn put_bytes(out: &mut [u8], bytes: &[u8]) -> usize
+    requires { ⌜ length (now bytes) ≤ length (now out) ⌝ }
+    ensures { λ r. ⌜ Put (now (out .entry)) 0 (now (bytes .entry)) (now (out .exit)) r ⌝ }
+{
+    for i in 0..bytes.len() {
+        out[i] = bytes[i];
+    }
+    bytes.len()
+}
+
+// Writes a refusal's line: "refused", a space and the number.
+fn put_refusal(out: &mut [u8], n: usize) -> usize
+    requires { ⌜ RefusalRoom (now out) n ⌝ }
+    ensures { λ r. ⌜ Puts (RefusalLine n) (now (out .entry)) 0 (now (out .exit)) r ⌝ }
+{
+    let number = put_bytes(out, b"refused ");
+    put_number(out, number, n, b'\n')
+}
+
+// Writes the text for a map file of no more bytes than the program takes.
+fn put_file(out: &mut [u8], src: &[u8]) -> usize
+    requires { ⌜ FileRoom (now src) (now out) ⌝ }
+    ensures { λ r. ⌜ Puts (Charted (now (src .entry))) (now (out .entry)) 0 (now (out .exit)) r ⌝ }
+{
+    let mut ids = [0u16; MOST];
+    let mut xs = [0u16; MOST];
+    let mut ys = [0u16; MOST];
+    let reading = reader::read(src, &mut ids, &mut xs, &mut ys);
+    match reading {
+        reader::Reading::Map(w, h, count) => {
+            let mut sheet = [0u8; MOST];
+            let size = h * w;
+            put_map(out, &mut sheet[..size], &xs, &ys, count, w, h)
+        }
+        reader::Reading::Refused(n) => put_refusal(out, n as usize),
+    }
+}
+
+// Writes the text for a map file to the front of the output, and hands back its length. The rest of the output stays.
+pub fn chart(src: &[u8], out: &mut [u8; 4608]) -> usize
+    ensures text { λ r. ⌜ (r ≤ 4608) × Charted (now (src .entry)) (take r (now (out .exit))) ⌝ }
+    ensures rest { λ r. ⌜ drop r (now (out .exit)) ≡ drop r (now (out .entry)) ⌝ }
+{
+    if MOST_BYTES < src.len() {
+        return put_bytes(out, b"refused long\n");
+    }
+    put_file(out, src)
+}
