@@ -1,7 +1,7 @@
 -- What reading a map file leaves in the slots is what stamping asks for, and the text of those markers is the text of the file. With a slot for each
 -- crossing of the largest map, no file's rocks want for one.
-use mathlib.Core.Path.{_≡_, sym, ap, subst, _∙_}
-use mathlib.Core.List.{List, [], _∷_, _++_}
+use mathlib.Core.Path.{_≡_, sym, ap, _∙_}
+use mathlib.Core.List.{List}
 use mathlib.Core.Logic.{_⊎_, inl, inr}
 use Prim.Native.Nat.{ℕ, _+_, _*_, _<_, _≤_}
 use native.Mathlib.Omega.{arith}
@@ -23,7 +23,7 @@ use Rattle.reader.specs.declared.Reading.the-variants.{Map, Refused}
 use Rattle.reader.specs.Promise.{Reads, Taken, Turned}
 use Rattle.reader.proofs.Limits.{crossings-few, most-markers-is}
 use Rattle.chart.specs.Promise.{most-bytes, Charted, at-fault, shown}
-use Rattle.chart.specs.Parts.{Puts, Shown, MarkersShown, RefusalLine}
+use Rattle.chart.specs.Parts.{Puts, MarkersShown, RefusalLine}
 use Rattle.chart.proofs.Showing.{shown-alike}
 
 -- Each answer of the reader with its own promise.
@@ -117,7 +117,7 @@ module _ {file : List ℕ} {list : List Marker} {w h count : ℕ} (ids xs ys : L
       record {
         piece = q .piece;
         right = shown w h (s .rocks) (s .shut) (s .groups) (t .bits) (s .line) (s .picture) l (t .map) (s .rocks-are) (s .shut-are) (s .groups-are)
-          (s .line-is) (s .picture-is) (s .is);
+            (s .line-is) (s .picture-is) (s .is);
         put = q .put;
       }
 

@@ -1,16 +1,15 @@
 -- A sheet stamped and labelled gives the text of the map, and the text depends on which crossings are rocks and not on how that is said.
-use mathlib.Core.Path.{_≡_, refl, _∙_}
+use mathlib.Core.Path.{_≡_, refl}
 use mathlib.Core.List.{List, _++_}
-use Prim.Native.Nat.{ℕ, _+_, _*_, _<_, _≤_}
+use Prim.Native.Nat.{ℕ, _≤_}
 use native.Mathlib.Omega.{arith}
 use Rattle.field.specs.Map.{side, Sides}
-use Rattle.field.specs.Labels.{Rock, RockOn, Label, is-open, is-rock, is-shut, Count}
+use Rattle.field.specs.Labels.{RockOn, Label, is-open, is-rock, is-shut, Count}
 use Rattle.field.specs.Workings.Sheet.{Draws}
-use Rattle.field.specs.Workings.SameLaws.{Alike, open-same, closed-same, shut-same, label-sheet-same, count-alike, groups-same}
+use Rattle.field.specs.Workings.SameLaws.{Alike, open-same, closed-same, shut-same, count-alike, groups-same}
 use Rattle.labels.specs.declared.Labelled.{Labelled}
 use Rattle.labels.specs.Promise.{Stones, Labels}
-use Rattle.markers.specs.List.{inUse}
-use Rattle.markers.specs.Promise.{listOf, Parallel, StampedWith}
+use Rattle.markers.specs.Promise.{StampedWith}
 use Rattle.reader.proofs.Limits.{crossings-few}
 use Rattle.chart.specs.Promise.{Picture}
 use Rattle.chart.specs.Parts.{Put, Puts, Short, FirstLine, Shown, MarkersShown}

@@ -1,6 +1,5 @@
 -- A count of crossings is at most the number of crossings: each adds 1 or 0.
-use mathlib.Core.Path.{_∙_}
-use Prim.Native.Nat.{ℕ, zero, suc, _+_, _*_, _≤_}
+use Prim.Native.Nat.{ℕ, zero, suc, _*_, _≤_}
 use native.Mathlib.Omega.{arith}
 use native.Mathlib.Nat.{suc-mul}
 use Rattle.field.specs.Labels.{sumTo, one, count, Count}

@@ -1,11 +1,11 @@
 -- What the code draws from a label sheet is the map's picture: sign x of row r stands at r * (w + 1) + x, and is the sign of its crossing's label.
-use mathlib.Core.Path.{_≡_, refl, sym, ap, _∙_}
-use mathlib.Core.List.{List, [], _∷_, _++_}
-use Prim.Native.Nat.{ℕ, zero, suc, _+_, _*_, _-_, _<_}
+use mathlib.Core.Path.{_≡_, refl, ap, _∙_}
+use mathlib.Core.List.{List, [], _∷_}
+use Prim.Native.Nat.{ℕ, _+_, _*_, _-_, _<_}
 use native.Mathlib.Omega.{arith}
 use lib.ListN.{length, getD, length-append, List·getD-append}
 use lib.Seq.{getD-at}
-use Rattle.field.specs.Map.{On, at}
+use Rattle.field.specs.Map.{at}
 use Rattle.field.specs.Labels.{Label, is-open, is-rock, is-shut, LabelSheet}
 use Rattle.writer.specs.Packing.{pieces}
 use Rattle.writer.specs.PackingLaws.{pieces-length, pieces-at}
@@ -42,9 +42,6 @@ module _ (s : List ℕ) (w y : ℕ) where
   row-end = getD-at (pieces w (signAt s (y * w))) 10 [] 0 w signs-length
 
 module _ (s : List ℕ) (w h : ℕ) where
-  rows : ℕ → List ℕ
-  rows r = rowOf s w (h - (r + 1))
-
   pub picture-length : length (pictureOf s w h) ≡ h * (w + 1)
   unfolding pictureOf
   picture-length = pieces-length (λ r. rowOf s w (h - (r + 1))) (w + 1) (λ r. row-length s w (h - (r + 1))) h
@@ -57,6 +54,8 @@ module _ (s : List ℕ) (w h : ℕ) where
   picture-drawn R L =
       record {
         size = picture-length;
-        sign = λ r x a b. let l = L .label x (h - (r + 1)) (record { in-x = b; in-y = omega arith }) in (at s w x (h - (r + 1)), l, rw (picture-at r x a (omega arith), row-sign s w (h - (r + 1)) x b) (label-sign l));
+        sign = λ r x a b.
+            let l = L .label x (h - (r + 1)) (record { in-x = b; in-y = omega arith }) in
+            (at s w x (h - (r + 1)), l, rw (picture-at r x a (omega arith), row-sign s w (h - (r + 1)) x b) (label-sign l));
         end = λ r a. picture-at r w a (omega arith) ∙ row-end s w (h - (r + 1));
       }

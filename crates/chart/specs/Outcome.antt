@@ -1,15 +1,15 @@
 -- The program has one text for a file: a number is printed in one way, a line is made of its numbers, and a picture's signs are those of the labels.
-use mathlib.Core.Path.{_≡_, refl, sym, ap, _∙_}
-use mathlib.Core.List.{List, [], _∷_, _++_}
-use Prim.Native.Nat.{ℕ, _+_, _*_, _-_, _<_, _≤_}
+use mathlib.Core.Path.{_≡_, sym, _∙_}
+use mathlib.Core.List.{List, []}
+use Prim.Native.Nat.{ℕ, _+_, _*_, _-_, _<_}
 use native.Mathlib.Omega.{arith}
 use native.Mathlib.Decide.{decLt}
-use lib.ListN.{length, getD}
+use lib.ListN.{getD}
 use lib.Seq.{ext-getD}
 use Rattle.field.specs.Workings.Sheet.{Crossing, crossing}
 use Rattle.field.specs.Workings.Labelling.{label-one}
 use Rattle.field.specs.Workings.Counting.{count-one}
-use Rattle.mapfile.specs.File.{MapFile, FileRock}
+use Rattle.mapfile.specs.File.{FileRock}
 use Rattle.mapfile.specs.FileLaws.{map-file-one, fault-one, fault-no-map}
 use Rattle.mapfile.specs.PlainLaws.{plain-one, plain-some}
 use Rattle.chart.specs.Promise.{
@@ -24,7 +24,6 @@ use Rattle.chart.specs.Promise.{
   rock-sign,
   shut-sign,
   Picture,
-  refused,
   Charted,
   too-long,
   at-fault,

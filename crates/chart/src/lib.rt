@@ -1,9 +1,8 @@
 // The labelling program's text: from the bytes of a map file to an output slice. Each piece of the text is written into its own part of the output,
 // and hands back where the next begins.
-ghost use Prim.Native.Nat.{ℕ, _≤_};
+ghost use Prim.Native.Nat.{_≤_};
 ghost use lib.ListN.{length, take, drop};
 ghost use mathlib.Core.Path.{_≡_};
-ghost use mathlib.Core.List.{_++_};
 ghost use Rattle.chart.specs.Promise.{Charted};
 ghost use Rattle.chart.specs.Parts.{Put, Puts, Short, PrintedIn, NumberThen, NumberRoom, FirstLine, LineRoom, RefusalLine, RefusalRoom, RowRoom, RowsRoom, MarkersShown, MapRoom, FileRoom};
 ghost use Rattle.chart.specs.Drawing.{signOf, rowOf, pictureOf};

@@ -1,11 +1,7 @@
 -- `chart` meets its promise: a file that is too long is told so, and any other gets its text.
 use native.Mathlib.Omega.{arith}
-use mathlib.Core.Path.{_≡_, sym}
-use mathlib.Core.List.{List, _++_}
-use Prim.Native.Nat.{ℕ, _*_, _+_, _≤_}
-use lib.ListN.{length, take, drop}
 use Rattle.field.specs.Map.{side}
-use Rattle.chart.specs.Promise.{most-bytes, refused, long, Charted, too-long}
+use Rattle.chart.specs.Promise.{most-bytes, too-long}
 use Rattle.chart.proofs.Putting.{put-told}
 use borrow.Author.Needs.{needs}
 use Rattle.chart.proofs.chart.Statement.{statement}

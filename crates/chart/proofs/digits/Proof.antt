@@ -1,11 +1,10 @@
 -- `digits` meets its contract: 0 is printed as one digit, and any other number with the digits that it has.
 use native.Mathlib.Omega.{arith}
 use mathlib.Core.Path.{_≡_, ap}
-use mathlib.Core.List.{List, [], _∷_}
 use Prim.Native.Nat.{ℕ}
 use Rattle.writer.specs.Digits.{digitsOf}
 use Rattle.writer.specs.DigitLaws.{digits-plain}
-use Rattle.chart.specs.Promise.{Printed, nought, digits}
+use Rattle.chart.specs.Promise.{nought, digits}
 use Rattle.chart.specs.Parts.{Short, PrintedIn}
 use Rattle.chart.proofs.digits.Statement.{statement}
 use Rattle.chart.proofs.digits.Tie as tie

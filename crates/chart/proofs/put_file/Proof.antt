@@ -1,12 +1,8 @@
 -- `put_file` meets its contract: the reader refuses the file, and its number is told; or the map that it finds is shown.
 use native.Mathlib.Omega.{arith}
-use mathlib.Core.Path.{_≡_, refl, sym}
-use Prim.Native.Nat.{ℕ, _*_, _≤_}
-use lib.ListN.{length}
+use mathlib.Core.Path.{refl, sym}
 use lib.Seq.{length-take-le}
 use Rattle.field.specs.Map.{side, Sides}
-use Rattle.markers.specs.Promise.{listOf}
-use Rattle.reader.specs.Promise.{Taken}
 use Rattle.reader.proofs.Limits.{crossings-few}
 use Rattle.chart.specs.Parts.{Short}
 use Rattle.chart.proofs.Reading.{reads-map, reads-refused, turned-fault, fault-text, taken-stamp, map-text, text-few}

@@ -46,25 +46,25 @@ put-number-requires-2 : tie.Need-put-number-requires-2
 put-number-requires-2 c κs =
     let a = c .before .before .before in
     let p = start a .pre in
-    record { short = p .height; room = omega (arith, p .room, reach-1 a .0, reach-1 a .1) }
+    record { short = search needs; room = omega (arith, p .room, reach-1 a .0, reach-1 a .1) }
 
 put-number-requires-3 : tie.Need-put-number-requires-3
 put-number-requires-3 c κs =
     let a = c .before .before .before in
     let p = start (before-2 a) .pre in
-    record { short = p .rocks; room = omega (arith, p .room, reach-2 a .0, reach-2 a .1) }
+    record { short = search needs; room = omega (arith, p .room, reach-2 a .0, reach-2 a .1) }
 
 put-number-requires-4 : tie.Need-put-number-requires-4
 put-number-requires-4 c κs =
     let a = c .before .before .before in
     let p = start (before-2 (before-3 a)) .pre in
-    record { short = p .shut; room = omega (arith, p .room, reach-3 a .0, reach-3 a .1) }
+    record { short = search needs; room = omega (arith, p .room, reach-3 a .0, reach-3 a .1) }
 
 put-number-requires-5 : tie.Need-put-number-requires-5
 put-number-requires-5 c κs =
     let a = c .before .before .before in
     let p = start (before-2 (before-3 (before-4 a))) .pre in
-    record { short = p .groups; room = omega (arith, p .room, reach-4 a .0, reach-4 a .1) }
+    record { short = search needs; room = omega (arith, p .room, reach-4 a .0, reach-4 a .1) }
 
 same-length : tie.Need-same-length
 same-length c = search needs

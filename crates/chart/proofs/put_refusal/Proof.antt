@@ -1,5 +1,5 @@
 -- `put_refusal` meets its contract: the word stands at the front, and the number behind it.
-use mathlib.Core.Path.{_≡_, refl, ap, _∙_}
+use mathlib.Core.Path.{refl, ap}
 use mathlib.Core.List.{List, [], _∷_, _++_}
 use Prim.Native.Nat.{ℕ}
 use Rattle.writer.proofs.Filling.{filled-as}
@@ -18,8 +18,8 @@ refusal-put {n} {at} {end} {out} {mid} {after} p q =
       piece = refused ++ (digits ++ 10 ∷ []);
       right = record { digits = digits; printed = q .right .printed; is = refl };
       put = front-put
-        (filled-as _ _ end end out after (filled-more refused (q .piece) at end out mid after (put-front p) (q .put))
-        (ap (λ (l : List ℕ). refused ++ l) (q .right .is)) refl);
+          (filled-as _ _ end end out after (filled-more refused (q .piece) at end out mid after (put-front p) (q .put))
+          (ap (λ (l : List ℕ). refused ++ l) (q .right .is)) refl);
     }
 
 slice-aggregate-put-bytes : tie.Need-slice-aggregate-put-bytes

@@ -1,6 +1,5 @@
 -- `sign` meets its contract: the label is 0, 1 or more.
 use Prim.Native.Nat.{ℕ, zero, suc}
-use native.Mathlib.Omega.{arith}
 use mathlib.Core.Path.{_≡_, refl, sym, ap}
 use Rattle.chart.specs.Drawing.{signOf}
 use Rattle.chart.proofs.sign.Statement.{statement}
