@@ -4,7 +4,7 @@ mod FirstTwo
 mod Skipping
 mod Numbering
 mod Heading
-mod Limits
+pub mod Limits
 mod Rows
 mod Counting
 mod Judging
