@@ -7,3 +7,6 @@ pub mod Calls
 pub mod Slots
 pub mod Lending
 pub mod Meeting
+pub mod Handing
+pub mod Returning
+pub mod Arrays

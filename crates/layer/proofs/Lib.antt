@@ -1,0 +1,10 @@
+-- Laws that the proofs of the code cite.
+mod Told
+mod Tables
+mod Seeking
+mod Listing
+mod Joining
+mod LabelAnswers
+mod DriveAnswers
+mod Asking
+mod Marks

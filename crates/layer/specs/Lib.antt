@@ -1,0 +1,21 @@
+-- The public calls: their refusals, and one promise a call.
+pub mod Rules
+pub mod RuleLaws
+pub mod Calls
+pub mod OutcomeLaws
+pub mod Exactly
+pub mod Outcome
+pub mod Sequences
+pub mod ListCalls
+pub mod HopCalls
+pub mod LabelCalls
+pub mod DriveCalls
+pub mod Agree
+pub mod Unread
+pub mod Demands
+pub mod Prepared
+pub mod Judging
+pub mod Sharing
+pub mod Files
+pub mod Writing
+pub mod Reading

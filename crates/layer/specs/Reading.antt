@@ -1,0 +1,132 @@
+-- From the parts of reading to the call's promise. Where the first part refuses, the count is 0, and the second part puts nothing; else it puts the
+-- markers of the map in the first slots.
+use mathlib.Core.Path.{_≡_, sym, ap, subst, _∙_}
+use mathlib.Core.List.{List, [], _∷_, _++_, append-assoc}
+use mathlib.Core.Logic.{_⊎_, inl, inr}
+use Prim.Native.Nat.{ℕ, suc, _+_, _<_, _≤_}
+use native.Mathlib.Omega.{arith}
+use native.Mathlib.Numerals.{add-one}
+use lib.ListN.{length, set, take, drop, length-append, length-drop}
+use lib.Seq.{take-suc, drop-cons, set-at, take-at, length-take-le}
+use Rattle.field.specs.declared.Marker.{Marker}
+use Rattle.field.specs.Map.{most-markers}
+use Rattle.field.specs.Refusals.{no-slot}
+use Rattle.field.specs.Labels.{blank}
+use Rattle.markers.specs.List.{slot}
+use Rattle.markers.specs.Promise.{listOf}
+use Rattle.mapfile.specs.File.{markersOf, FileFault, NoSlot}
+use Rattle.mapfile.specs.FileLaws.{map-file-one}
+use Rattle.reader.specs.Promise.{Taken, Turned}
+use Rattle.layer.specs.Exactly.{fault-number}
+use Rattle.layer.specs.Files.{Found, ReadFirst, refused, found, ReadsMarkers, MayPut, putIn}
+use Rattle.layer.specs.Calls.{ReadCall}
+use Rattle.layer.specs.declared.ReadMap.{ReadMap}
+
+-- What the reader promises over its own slices, told of the list lent.
+module _ {file : List ℕ} {list after : List Marker} {lent : ℕ} where
+  pub taken-found : {w h count : ℕ} → Taken file list w h count after → count ≤ lent → Found file lent w h count after
+  taken-found {w} {h} {count} t l =
+      record {
+        bits = t .bits;
+        map = t .map;
+        counted = t .counted;
+        within = l;
+        few = t .few;
+        slots = ap (take count) (t .slots) ∙ take-at (markersOf w h (t .bits)) (drop count list) count (sym (t .counted));
+      }
+
+  pub taken-full : {w h count : ℕ} → Taken file list w h count after → lent < count → NoSlot file lent
+  taken-full {w} {h} {count} t l = record { w = w; h = h; bits = t .bits; map = t .map; many = inl (omega (arith, t .counted)) }
+
+  -- The reader's slices have room for as many markers as may be in use: rocks that find no slot there find none anywhere.
+  pub turned-refused : {n : ℕ} → most-markers ≤ length list → Turned file list n after → FileFault file n ⊎ (NoSlot file lent × (n ≡ no-slot))
+  turned-refused {n} l t = go (t .fault)
+    where
+      most : (s : NoSlot file (length list)) → (length list < length (markersOf (s .w) (s .h) (s .bits))) ⊎ (most-markers < length (markersOf (s .w) (s .h) (s .bits)))
+          → most-markers < length (markersOf (s .w) (s .h) (s .bits))
+      most s (inl m) = omega arith
+      most s (inr m) = m
+
+      go : FileFault file n ⊎ (NoSlot file (length list) × (n ≡ no-slot)) → FileFault file n ⊎ (NoSlot file lent × (n ≡ no-slot))
+      go (inl f) = inl f
+      go (inr (s, e)) = inr (record { w = s .w; h = s .h; bits = s .bits; map = s .map; many = inr (most s (s .many)) }, e)
+
+-- Putting changes no length, and one marker more is put by one store.
+pub put-length : (list markers : List Marker) (k : ℕ) → k ≤ length list → k ≤ length markers → length (putIn list k markers) ≡ length list
+put-length list markers k l m = omega (arith, length-append (take k markers) (drop k list), length-take-le k markers m, length-drop k list)
+
+pub put-more : (list markers : List Marker) (k : ℕ) → k < length list → k < length markers → set (putIn list k markers) k (slot markers k) ≡ putIn list (k + 1) markers
+put-more list markers k l m =
+    ap (λ (t : List Marker). set (front ++ t) k (slot markers k)) (drop-cons list k blank l)
+    ∙ set-at front (slot list k) (drop (suc k) list) (slot markers k) k (length-take-le k markers (omega arith))
+    ∙ sym (append-assoc front (slot markers k ∷ []) (drop (suc k) list))
+    ∙ ap (λ (t : List Marker). t ++ drop (suc k) list) (sym (take-suc markers k blank m))
+    ∙ ap (λ (n : ℕ). putIn list n markers) (sym (add-one k))
+  where
+    front : List Marker
+    front = take k markers
+
+module _ {file : List ℕ} {list : List Marker} {ids xs ys : List ℕ} {r : ReadMap} (p : ReadsMarkers file (length list) ids xs ys r) where
+  -- The second part may put as many as are counted.
+  pub may-put : most-markers ≤ length ids → MayPut list (r .count) ids xs ys
+  may-put l = go (p .first)
+    where
+      go : ReadFirst file (length list) (listOf ids xs ys) r → MayPut list (r .count) ids xs ys
+      go (refused n f e) =
+          let z : r .count ≡ 0 = ap (λ (a : ReadMap). a .count) e in
+          record { parallel = p .parallel; had = omega arith; lent = omega arith }
+      go (found w h count f e) =
+          let z : r .count ≡ count = ap (λ (a : ReadMap). a .count) e in
+          record { parallel = p .parallel; had = omega (arith, f .few); lent = omega (arith, f .within) }
+
+-- The call's promise.
+pub read-call : {file : List ℕ} {list list′ markers : List Marker} {r : ReadMap} → ReadFirst file (length list) markers r → list′ ≡ putIn list (r .count) markers
+    → ReadCall file list list′ r
+read-call {file} {list} {list′} {markers} {r} (refused n f e) s =
+    record {
+      refused = λ z. (
+        subst (λ (k : ℕ). FileFault file k ⊎ (NoSlot file (length list) × (k ≡ no-slot))) (sym number) f,
+        s ∙ ap (λ (k : ℕ). putIn list k markers) none,
+        ap (λ (a : ReadMap). a .width) e,
+        ap (λ (a : ReadMap). a .height) e,
+        none,
+      );
+      done = λ z. absurd (some f (sym number ∙ z));
+    }
+  where
+    number : r .refusal ≡ n
+    number = ap (λ (a : ReadMap). a .refusal) e
+
+    none : r .count ≡ 0
+    none = ap (λ (a : ReadMap). a .count) e
+
+    some : FileFault file n ⊎ (NoSlot file (length list) × (n ≡ no-slot)) → ¬ (n ≡ 0)
+    some (inl g) = fault-number g .0
+    some (inr g) = omega (arith, g .1)
+read-call {file} {list} {list′} {markers} {r} (found w h count f e) s =
+    record {
+      refused = λ z. absurd (z (ap (λ (a : ReadMap). a .refusal) e));
+      done = λ z. rw (width, height) (f .bits, f .map, counted, room, s ∙ ap (λ (t : List Marker). t ++ drop (r .count) list) (ap (λ (k : ℕ). take k markers) many ∙ f .slots));
+    }
+  where
+    width : r .width ≡ w
+    width = ap (λ (a : ReadMap). a .width) e
+
+    height : r .height ≡ h
+    height = ap (λ (a : ReadMap). a .height) e
+
+    many : r .count ≡ count
+    many = ap (λ (a : ReadMap). a .count) e
+
+    counted : r .count ≡ length (markersOf w h (f .bits))
+    counted = many ∙ f .counted
+
+    room : ¬ NoSlot file (length list)
+    room t = go (t .many)
+      where
+        same : length (markersOf (t .w) (t .h) (t .bits)) ≡ count
+        same = let o = map-file-one (t .map) (f .map) in rw (o .0, o .1, o .2) (sym (f .counted))
+
+        go : (length list < length (markersOf (t .w) (t .h) (t .bits))) ⊎ (most-markers < length (markersOf (t .w) (t .h) (t .bits))) → ⊥
+        go (inl l) = omega (arith, same, f .within)
+        go (inr l) = omega (arith, same, f .few)

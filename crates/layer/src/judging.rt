@@ -1,0 +1,208 @@
+// Refusals that are told from numbers and yes-or-no answers alone, the lowest first. Nothing here touches what is lent.
+use field::Marker;
+ghost use mathlib.Core.Path.{_≡_};
+ghost use mathlib.Core.Bool.{true};
+ghost use mathlib.Core.Logic.{_↔_};
+ghost use Prim.Native.Nat.{_<_, _^_};
+ghost use Rattle.field.specs.Map.{Sides, On};
+ghost use Rattle.markers.specs.Promise.{marker};
+ghost use Rattle.layer.specs.Rules.{Gives};
+ghost use Rattle.layer.specs.Judging.{Fits, FourFit, asking-judged, list-judged, enter-judged, clear-judged, FoundAt};
+
+// "Width and height: 1 to 64 each." "At most 4,096 are in use."
+const SIDE: usize = 64;
+
+const MOST_MARKERS: usize = 4096;
+
+// Document 01's refusal numbers that come before anything is written, and 0 for none.
+pub const SUCCESS: u8 = 0;
+
+pub const BAD_SIZE: u8 = 1;
+
+pub const BAD_SHEET: u8 = 2;
+
+pub const BAD_LIST: u8 = 3;
+
+pub const BAD_PLACE: u8 = 4;
+
+pub const ID_IN_USE: u8 = 5;
+
+pub const ID_NOT_IN_USE: u8 = 6;
+
+pub const NO_SLOT: u8 = 7;
+
+// Whether width and height are within the limit.
+fn sized(w: usize, h: usize) -> bool
+    ensures { λ r. ⌜ ((r ≡ true) ↔ Sides w h) ⌝ }
+{
+    if w == 0 {
+        return false;
+    }
+    if h == 0 {
+        return false;
+    }
+    if SIDE < w {
+        return false;
+    }
+    h <= SIDE
+}
+
+// Whether (x, y) is a crossing of the map.
+fn on_map(w: usize, h: usize, x: usize, y: usize) -> bool
+    ensures { λ r. ⌜ ((r ≡ true) ↔ On w h x y) ⌝ }
+{
+    if w <= x {
+        return false;
+    }
+    y < h
+}
+
+// Whether a sheet of n bytes is of the map's size. The product is made only within the limit, so that it does not overflow.
+pub fn fits(w: usize, h: usize, n: usize) -> bool
+    ensures { λ r. ⌜ ((r ≡ true) ↔ Fits w h n) ⌝ }
+{
+    if !sized(w, h) {
+        return false;
+    }
+    n == h * w
+}
+
+// Whether four sheets are.
+pub fn four_fit(w: usize, h: usize, n: usize, m: usize, k: usize, l: usize) -> bool
+    ensures { λ r. ⌜ ((r ≡ true) ↔ FourFit w h n m k l) ⌝ }
+{
+    if !fits(w, h, n) {
+        return false;
+    }
+    if !fits(w, h, m) {
+        return false;
+    }
+    if !fits(w, h, k) {
+        return false;
+    }
+    fits(w, h, l)
+}
+
+// The lowest of refusals 1 to 4, or 0: n is the label sheet's length, `others` tells whether every other sheet is of the map's size, `well` whether
+// the list is well formed; (x, y) and (a, b) are the places asked.
+pub fn lowest(
+    w: usize,
+    h: usize,
+    n: usize,
+    others: bool,
+    well: bool,
+    x: usize,
+    y: usize,
+    a: usize,
+    b: usize,
+) -> u8
+    ensures { λ r. ⌜ Gives (asking-judged w h n others well x y a b) r ⌝ }
+{
+    if !sized(w, h) {
+        return BAD_SIZE;
+    }
+    if n != h * w {
+        return BAD_SHEET;
+    }
+    if !others {
+        return BAD_SHEET;
+    }
+    if !well {
+        return BAD_LIST;
+    }
+    if !on_map(w, h, x, y) {
+        return BAD_PLACE;
+    }
+    if !on_map(w, h, a, b) {
+        return BAD_PLACE;
+    }
+    SUCCESS
+}
+
+// Refusal 1 or 3, or 0: `formed` tells whether the list is well formed.
+pub fn list_refusal(w: usize, h: usize, formed: bool) -> u8
+    ensures { λ r. ⌜ Gives (list-judged w h formed) r ⌝ }
+{
+    if !sized(w, h) {
+        return BAD_SIZE;
+    }
+    if !formed {
+        return BAD_LIST;
+    }
+    SUCCESS
+}
+
+// Whether the marker in an id's place bears it.
+pub fn bears(m: Marker, id: u16) -> u8
+    ensures { λ r. ⌜ FoundAt (m .id) id r ⌝ }
+{
+    if m.id == id {
+        return ID_IN_USE;
+    }
+    ID_NOT_IN_USE
+}
+
+// The marker with this id on (x, y).
+pub fn marker(id: u16, x: usize, y: usize) -> Marker
+    requires { ⌜ (x < 2 ^ 16) × (y < 2 ^ 16) ⌝ }
+    ensures { λ r. ⌜ r ≡ marker id x y ⌝ }
+{
+    Marker {
+        id,
+        x: x as u16,
+        y: y as u16,
+    }
+}
+
+// The refusal of entering a marker, or 0, by what was found of its id.
+pub fn enter_refusal(
+    found: u8,
+    w: usize,
+    h: usize,
+    id: u16,
+    x: usize,
+    y: usize,
+    count: usize,
+    lent: usize,
+) -> u8
+    ensures { λ r. ⌜ Gives (enter-judged found w h id x y count lent) r ⌝ }
+{
+    if found == BAD_SIZE {
+        return BAD_SIZE;
+    }
+    if found == BAD_LIST {
+        return BAD_LIST;
+    }
+    if !on_map(w, h, x, y) {
+        return BAD_PLACE;
+    }
+    if id == 0 {
+        return BAD_PLACE;
+    }
+    if found == ID_IN_USE {
+        return ID_IN_USE;
+    }
+    if lent <= count {
+        return NO_SLOT;
+    }
+    if MOST_MARKERS <= count {
+        return NO_SLOT;
+    }
+    SUCCESS
+}
+
+// The refusal of clearing a marker, or 0, by what was found of its id.
+pub fn clear_refusal(found: u8) -> u8
+    ensures { λ r. ⌜ Gives (clear-judged found) r ⌝ }
+{
+    if found == BAD_SIZE {
+        return BAD_SIZE;
+    }
+    if found == BAD_LIST {
+        return BAD_LIST;
+    }
+    if found == ID_NOT_IN_USE {
+        return ID_NOT_IN_USE;
+    }
+    SUCCESS
+}

@@ -1,0 +1,267 @@
+// The public calls over the lent list of marker records. No call relies on its caller: each answers by the lowest refusal that applies, or succeeds.
+mod judging; // judging.rt: refusals told from numbers alone
+mod files; // files.rt: the two map-file calls
+
+use askings::Assurance;
+use askings::Drove;
+use askings::Four;
+use askings::Homeward;
+use askings::Labelling;
+use field::Marker;
+ghost use Rattle.layer.specs.Rules.{Gives};
+ghost use Rattle.layer.specs.Calls.{EnterCall, ClearCall, LabelCall, DistancesCall, MeasureCall, AssuredCall, HopCall, RegionCall, DriveCall};
+ghost use Rattle.layer.specs.Prepared.{Prepared, found-table};
+
+// The new count of a list, or the refusal.
+#[repr(C)]
+pub struct Counted {
+    pub refusal: u8,
+    pub count: usize,
+}
+
+// Width, height and number of markers of a map that was read, or the refusal.
+#[repr(C)]
+pub struct ReadMap {
+    pub refusal: u8,
+    pub width: usize,
+    pub height: usize,
+    pub count: usize,
+}
+
+// How many bytes were written, or the refusal.
+#[repr(C)]
+pub struct WroteMap {
+    pub refusal: u8,
+    pub bytes: usize,
+}
+
+// What is found of the map, the list and an id: refusal 1 or 3, or the id in use, 5, or not in use, 6.
+fn seek(list: &[Marker], count: usize, w: usize, h: usize, id: u16) -> u8
+    ensures { λ r. ⌜ Gives (found-table (now (list .entry)) count w h id) r ⌝ }
+{
+    let well = records::well_formed(list, count, w, h);
+    let n = judging::list_refusal(w, h, well);
+    if n != judging::SUCCESS {
+        return n;
+    }
+    let k = records::place_of(list, count, id);
+    if count <= k {
+        return judging::ID_NOT_IN_USE;
+    }
+    judging::bears(list[k], id)
+}
+
+// Enters a marker. Hands back the new count, or the refusal: 1, 3, 4, 5 or 7.
+#[no_mangle]
+pub extern "C" fn bodkin_enter(
+    list: &mut [Marker],
+    count: usize,
+    w: usize,
+    h: usize,
+    id: u16,
+    x: usize,
+    y: usize,
+) -> Counted
+    ensures { λ r. ⌜ EnterCall (now (list .entry)) count w h id x y (now (list .exit)) r ⌝ }
+{
+    let found = seek(list, count, w, h, id);
+    let n = judging::enter_refusal(found, w, h, id, x, y, count, list.len());
+    if n != judging::SUCCESS {
+        return Counted {
+            refusal: n,
+            count: 0,
+        };
+    }
+    let m = judging::marker(id, x, y);
+    let next = records::enter(list, count, m);
+    Counted {
+        refusal: judging::SUCCESS,
+        count: next,
+    }
+}
+
+// Clears the marker with this id. Hands back the new count, or the refusal: 1, 3 or 6.
+#[no_mangle]
+pub extern "C" fn bodkin_clear(
+    list: &mut [Marker],
+    count: usize,
+    w: usize,
+    h: usize,
+    id: u16,
+) -> Counted
+    ensures { λ r. ⌜ ClearCall (now (list .entry)) count w h id (now (list .exit)) r ⌝ }
+{
+    let found = seek(list, count, w, h, id);
+    let n = judging::clear_refusal(found);
+    if n != judging::SUCCESS {
+        return Counted {
+            refusal: n,
+            count: 0,
+        };
+    }
+    let next = records::clear(list, count, id);
+    Counted {
+        refusal: judging::SUCCESS,
+        count: next,
+    }
+}
+
+// The first part of every asking: the lowest of refusals 1 to 4, and where there is none, 0, and the rocks stamped on the label sheet. `others` tells
+// whether every other lent sheet is of the map's size; (x, y) and (a, b) are the places asked.
+fn prepare(
+    list: &[Marker],
+    count: usize,
+    w: usize,
+    h: usize,
+    x: usize,
+    y: usize,
+    a: usize,
+    b: usize,
+    others: bool,
+    labels: &mut [u8],
+) -> u8
+    ensures { λ r. ⌜ Prepared (now (list .entry)) count w h x y a b others (now (labels .entry)) (now (labels .exit)) r ⌝ }
+{
+    let well = records::well_formed(list, count, w, h);
+    let n = judging::lowest(w, h, labels.len(), others, well, x, y, a, b);
+    if n != judging::SUCCESS {
+        return n;
+    }
+    records::stamp(list, count, w, h, labels);
+    judging::SUCCESS
+}
+
+// Labels the map. Hands back the numbers of rocks' crossings, shut crossings and groups, or the refusal: 1, 2 or 3.
+#[no_mangle]
+pub extern "C" fn bodkin_label(
+    list: &[Marker],
+    count: usize,
+    w: usize,
+    h: usize,
+    labels: &mut [u8],
+) -> Labelling
+    ensures { λ r. ⌜ LabelCall (now (list .entry)) count w h (now (labels .entry)) (now (labels .exit)) r ⌝ }
+{
+    let n = prepare(list, count, w, h, 0, 0, 0, 0, true, labels);
+    askings::label(n, w, h, labels)
+}
+
+// The four distances of (x, y), east, south, west, north, or the refusal: 1, 2, 3 or 4.
+#[no_mangle]
+pub extern "C" fn bodkin_distances(
+    list: &[Marker],
+    count: usize,
+    w: usize,
+    h: usize,
+    x: usize,
+    y: usize,
+    labels: &mut [u8],
+) -> Four
+    ensures { λ r. ⌜ DistancesCall (now (list .entry)) count w h x y (now (labels .entry)) (now (labels .exit)) r ⌝ }
+{
+    let n = prepare(list, count, w, h, x, y, x, y, true, labels);
+    askings::distances(n, w, h, x, y, labels)
+}
+
+// The distances of the whole map, into one lent sheet for each way. Answers the refusal, 1, 2 or 3, or 0.
+#[no_mangle]
+pub extern "C" fn bodkin_measure(
+    list: &[Marker],
+    count: usize,
+    w: usize,
+    h: usize,
+    labels: &mut [u8],
+    east: &mut [u8],
+    south: &mut [u8],
+    west: &mut [u8],
+    north: &mut [u8],
+) -> u8
+    ensures { λ r. ⌜ MeasureCall (now (list .entry)) count w h (now (labels .entry)) (now (east .entry)) (now (south .entry)) (now (west .entry)) (now (north .entry)) (now (labels .exit)) (now (east .exit)) (now (south .exit)) (now (west .exit)) (now (north .exit)) r ⌝ }
+{
+    let others = judging::four_fit(w, h, east.len(), south.len(), west.len(), north.len());
+    let n = prepare(list, count, w, h, 0, 0, 0, 0, others, labels);
+    askings::measure(n, w, h, labels, east, south, west, north)
+}
+
+// Whether home (hx, hy) is assured for (x, y), or the refusal: 1, 2, 3, 4 or 8.
+#[no_mangle]
+pub extern "C" fn bodkin_assured(
+    list: &[Marker],
+    count: usize,
+    w: usize,
+    h: usize,
+    hx: usize,
+    hy: usize,
+    x: usize,
+    y: usize,
+    labels: &mut [u8],
+) -> Assurance
+    ensures { λ r. ⌜ AssuredCall (now (list .entry)) count w h hx hy x y (now (labels .entry)) (now (labels .exit)) r ⌝ }
+{
+    let n = prepare(list, count, w, h, hx, hy, x, y, true, labels);
+    askings::assured(n, w, h, hx, hy, x, y, labels)
+}
+
+// Every permitted hop from (x, y) towards home (hx, hy), none at home, or the refusal: 1, 2, 3, 4, 8 or 11.
+#[no_mangle]
+pub extern "C" fn bodkin_hop(
+    list: &[Marker],
+    count: usize,
+    w: usize,
+    h: usize,
+    hx: usize,
+    hy: usize,
+    x: usize,
+    y: usize,
+    labels: &mut [u8],
+) -> Homeward
+    ensures { λ r. ⌜ HopCall (now (list .entry)) count w h hx hy x y (now (labels .entry)) (now (labels .exit)) r ⌝ }
+{
+    let n = prepare(list, count, w, h, hx, hy, x, y, true, labels);
+    askings::hop(n, w, h, hx, hy, x, y, labels)
+}
+
+// The crossings on at least one shortest drive from (sx, sy) to (dx, dy). Answers the refusal, 1, 2, 3, 4, 8 or 9, or 0.
+#[no_mangle]
+pub extern "C" fn bodkin_region(
+    list: &[Marker],
+    count: usize,
+    w: usize,
+    h: usize,
+    sx: usize,
+    sy: usize,
+    dx: usize,
+    dy: usize,
+    labels: &mut [u8],
+    region: &mut [u8],
+) -> u8
+    ensures { λ r. ⌜ RegionCall (now (list .entry)) count w h sx sy dx dy (now (labels .entry)) (now (region .entry)) (now (labels .exit)) (now (region .exit)) r ⌝ }
+{
+    let others = judging::fits(w, h, region.len());
+    let n = prepare(list, count, w, h, sx, sy, dx, dy, others, labels);
+    askings::region(n, w, h, sx, sy, dx, dy, labels, region)
+}
+
+// A shortest drive from (sx, sy) to (dx, dy), drawn from the lent state, at the front of the lent route. Hands back how many crossings it has, or the
+// refusal: 1, 2, 3, 4, 8, 9 or 10.
+#[no_mangle]
+pub extern "C" fn bodkin_drive(
+    list: &[Marker],
+    count: usize,
+    w: usize,
+    h: usize,
+    sx: usize,
+    sy: usize,
+    dx: usize,
+    dy: usize,
+    labels: &mut [u8],
+    region: &mut [u8],
+    route: &mut [u16],
+    state: &mut u32,
+) -> Drove
+    ensures { λ r. ⌜ DriveCall (now (list .entry)) count w h sx sy dx dy (now (labels .entry)) (now (region .entry)) (now (route .entry)) (now (state .entry)) (now (labels .exit)) (now (region .exit)) (now (route .exit)) (now (state .exit)) r ⌝ }
+{
+    let others = judging::fits(w, h, region.len());
+    let n = prepare(list, count, w, h, sx, sy, dx, dy, others, labels);
+    askings::drive(n, w, h, sx, sy, dx, dy, labels, region, route, state)
+}
