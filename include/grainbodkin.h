@@ -1,0 +1,204 @@
+/*
+ * Grainbodkin: the obstacle layer for carts on a grid of crossings.
+ *
+ * The eleven calls of the static library, target/staticlib/liblayer.a. Each call answers by the lowest refusal that applies, or succeeds: for every
+ * value of every number and every content of every buffer. What C cannot let a callee check is the caller's part: a pointer stands before its length
+ * and points to so many elements, aligned for their type; what a call may write overlaps nothing else that is lent to the same call. A pointer is not
+ * null, even where its length is 0.
+ *
+ * A crossing is (x, y), x rising to the east from 0, y rising to the north from 0. Its number is y * width + x. Sheets and routes go by number.
+ */
+#ifndef GRAINBODKIN_H
+#define GRAINBODKIN_H
+
+#include <stdbool.h>
+#include <stddef.h>
+#include <stdint.h>
+
+#ifdef __cplusplus
+extern "C" {
+#endif
+
+/* The limits: width and height of a map, markers in use, and the mark of a distance that there is none. */
+#define BODKIN_SIDE 64
+#define BODKIN_MARKERS 4096
+#define BODKIN_NO_DISTANCE 255
+
+/* A label sheet's bytes. */
+#define BODKIN_OPEN 0
+#define BODKIN_ROCK 1
+#define BODKIN_SHUT 2
+
+/* Refusal numbers. 0 is success. */
+enum bodkin_refusal {
+    BODKIN_DONE = 0,
+    BODKIN_BAD_SIZE = 1,        /* width or height is 0 or over BODKIN_SIDE */
+    BODKIN_BAD_SHEET = 2,       /* a lent sheet is not width * height bytes */
+    BODKIN_BAD_LIST = 3,        /* count over BODKIN_MARKERS or over the list lent, an id 0, ids not rising, or a marker off the map */
+    BODKIN_BAD_PLACE = 4,       /* a place or new marker off the map, or a new id of 0 */
+    BODKIN_ID_IN_USE = 5,       /* entering an id in use */
+    BODKIN_ID_NOT_IN_USE = 6,   /* clearing an id not in use */
+    BODKIN_NO_SLOT = 7,         /* count, or a file's rocks, would pass the list lent or BODKIN_MARKERS */
+    BODKIN_END_CLOSED = 8,      /* assurance, hop, region or drive asked, an end closed */
+    BODKIN_NO_DRIVE = 9,        /* region or drive asked, both ends open, no shortest drive */
+    BODKIN_SHORT_ROUTE = 10,    /* route buffer shorter than distance + 1 */
+    BODKIN_NOT_ASSURED = 11,    /* hop asked, home not assured */
+    BODKIN_BAD_LETTERS = 12,    /* first two bytes are neither P1 nor P4, or there are fewer than two */
+    BODKIN_BAD_HEADER = 13,     /* header against the rules or cut short, or a foreign byte before a P1 raster's last digit */
+    BODKIN_SHORT_RASTER = 14,   /* raster ends early */
+    BODKIN_LONG_RASTER = 15,    /* bytes after the raster (in P1: other than blanks) */
+    BODKIN_SHARED_CROSSING = 16, /* two markers on one crossing, when writing */
+    BODKIN_SHORT_OUTPUT = 17    /* output too short for the whole file */
+};
+
+/* A rock marker: an id, 1 to 65,535, and a crossing. Several may stand on one crossing; each is kept. */
+struct bodkin_marker {
+    uint16_t id;
+    uint16_t x;
+    uint16_t y;
+};
+
+/* Answers. `refusal` is 0 or the refusal's number; at a refusal every other field is 0 or false. */
+
+struct bodkin_counted {
+    uint8_t refusal;
+    size_t count;
+};
+
+struct bodkin_labelling {
+    uint8_t refusal;
+    size_t rocks;  /* crossings with a rock */
+    size_t shut;   /* shut crossings */
+    size_t groups; /* groups of closed crossings */
+};
+
+struct bodkin_four {
+    uint8_t refusal;
+    uint8_t four[4]; /* east, south, west, north */
+};
+
+struct bodkin_assurance {
+    uint8_t refusal;
+    bool assured;
+};
+
+struct bodkin_homeward {
+    uint8_t refusal;
+    uint8_t hops; /* 0: there; 1: (x, y); 2: (x, y), the east-west one, and (a, b) */
+    size_t x;
+    size_t y;
+    size_t a;
+    size_t b;
+};
+
+struct bodkin_drove {
+    uint8_t refusal;
+    size_t length; /* crossings filled at the front of the route */
+};
+
+struct bodkin_read_map {
+    uint8_t refusal;
+    size_t width;
+    size_t height;
+    size_t count;
+};
+
+struct bodkin_wrote_map {
+    uint8_t refusal;
+    size_t bytes;
+};
+
+/*
+ * Every call with a list takes `list`, its length `lent`, and `count`, how many of its slots are in use. Slots past the count are never read. Apart
+ * from bodkin_enter, bodkin_clear and bodkin_read no call changes a slot.
+ */
+
+/*
+ * Enters a marker: puts it at its place by id, moves the later ones up by one, and hands back the new count.
+ * Refuses 1, 3, 4, 5 or 7; then no slot changes.
+ */
+struct bodkin_counted bodkin_enter(struct bodkin_marker *list, size_t lent, size_t count, size_t width, size_t height, uint16_t id, size_t x,
+                                   size_t y);
+
+/*
+ * Clears the marker with this id: moves the later ones down, sets the one slot so freed to zeros, and hands back the new count.
+ * Refuses 1, 3 or 6; then no slot changes.
+ */
+struct bodkin_counted bodkin_clear(struct bodkin_marker *list, size_t lent, size_t count, size_t width, size_t height, uint16_t id);
+
+/*
+ * Labels the map: one byte a crossing into `labels`, and the numbers of rocks' crossings, shut crossings and groups.
+ * Refuses 1, 2 or 3; then no byte changes.
+ */
+struct bodkin_labelling bodkin_label(const struct bodkin_marker *list, size_t lent, size_t count, size_t width, size_t height, uint8_t *labels,
+                                     size_t labels_len);
+
+/*
+ * The four clear distances of (x, y), east, south, west, north: the hops to the nearest closed crossing that way, or BODKIN_NO_DISTANCE. At a closed
+ * crossing all four are 0. The label sheet holds the labels.
+ * Refuses 1, 2, 3 or 4; then no byte changes.
+ */
+struct bodkin_four bodkin_distances(const struct bodkin_marker *list, size_t lent, size_t count, size_t width, size_t height, size_t x, size_t y,
+                                    uint8_t *labels, size_t labels_len);
+
+/*
+ * The clear distances of the whole map, one sheet a way. The label sheet holds the labels. Answers 0.
+ * Refuses 1, 2 or 3; then no byte changes.
+ */
+uint8_t bodkin_measure(const struct bodkin_marker *list, size_t lent, size_t count, size_t width, size_t height, uint8_t *labels, size_t labels_len,
+                       uint8_t *east, size_t east_len, uint8_t *south, size_t south_len, uint8_t *west, size_t west_len, uint8_t *north,
+                       size_t north_len);
+
+/*
+ * Whether home (hx, hy) is assured for the place (x, y). The label sheet holds the labels.
+ * Refuses 1, 2, 3 or 4, and then no byte changes; or 8, and then the label sheet holds the labels.
+ */
+struct bodkin_assurance bodkin_assured(const struct bodkin_marker *list, size_t lent, size_t count, size_t width, size_t height, size_t hx, size_t hy,
+                                       size_t x, size_t y, uint8_t *labels, size_t labels_len);
+
+/*
+ * Every permitted hop from (x, y) towards home (hx, hy), the east-west one first; at home none. Whichever hops a cart takes, it is home after exactly
+ * the east-west plus north-south distance. The label sheet holds the labels.
+ * Refuses 1, 2, 3 or 4, and then no byte changes; or 8 or 11, and then the label sheet holds the labels.
+ */
+struct bodkin_homeward bodkin_hop(const struct bodkin_marker *list, size_t lent, size_t count, size_t width, size_t height, size_t hx, size_t hy,
+                                  size_t x, size_t y, uint8_t *labels, size_t labels_len);
+
+/*
+ * The region: 1 in `region` for each crossing on at least one shortest drive from (sx, sy) to (dx, dy), 0 for every other. The label sheet holds the
+ * labels. Answers 0.
+ * Refuses 1, 2, 3 or 4, and then no byte changes; or 8 or 9, and then the label sheet holds the labels, and the region sheet is unchanged at 8 and all
+ * 0 at 9.
+ */
+uint8_t bodkin_region(const struct bodkin_marker *list, size_t lent, size_t count, size_t width, size_t height, size_t sx, size_t sy, size_t dx,
+                      size_t dy, uint8_t *labels, size_t labels_len, uint8_t *region, size_t region_len);
+
+/*
+ * A shortest drive from (sx, sy) to (dx, dy): crossing numbers at the front of `route`, s first and d last, drawn from the 32-bit `state`, which moves
+ * on. The rest of the route is unchanged. The sheets hold labels and region.
+ * Refuses 1, 2, 3 or 4, and then no byte changes; or 8, 9 or 10, and then the label sheet holds the labels, the region sheet is unchanged at 8, all 0 at
+ * 9, the region at 10, and route and state are unchanged.
+ */
+struct bodkin_drove bodkin_drive(const struct bodkin_marker *list, size_t lent, size_t count, size_t width, size_t height, size_t sx, size_t sy,
+                                 size_t dx, size_t dy, uint8_t *labels, size_t labels_len, uint8_t *region, size_t region_len, uint16_t *route,
+                                 size_t route_len, uint32_t *state);
+
+/*
+ * Reads a PBM map, P1 or P4. Its rocks become markers with ids 1, 2, 3 and on, in raster order, in the first slots; other slots stay. Hands back
+ * width, height and the new count.
+ * Refuses 12, then 13 in the header, 1, then at the first fault met in the raster 13, 14 or 15, then 7; no slot changes then.
+ */
+struct bodkin_read_map bodkin_read(const uint8_t *file, size_t file_len, struct bodkin_marker *list, size_t lent);
+
+/*
+ * Writes the list as a PBM map, P4, and hands back the number of bytes written. Bytes past the end stay.
+ * Refuses 1, 3, 16 or 17; then no byte changes.
+ */
+struct bodkin_wrote_map bodkin_write(const struct bodkin_marker *list, size_t lent, size_t count, size_t width, size_t height, uint8_t *out,
+                                     size_t out_len);
+
+#ifdef __cplusplus
+}
+#endif
+
+#endif

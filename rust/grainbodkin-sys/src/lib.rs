@@ -1,0 +1,228 @@
+//! The eleven calls of the proved static library, as `include/grainbodkin.h` declares them. A slice goes as pointer and length.
+//!
+//! A pointer points to as many elements as its length says and is not null; what a call may write overlaps nothing else that is lent to the same call.
+//! For every other value of every parameter a call answers, by its refusal or its success. The crate `grainbodkin` has the same calls without `unsafe`.
+#![no_std]
+
+/// A rock marker: an id, 1 to 65,535, and a crossing.
+#[repr(C)]
+#[derive(Clone, Copy, Debug, Default, PartialEq, Eq, Hash)]
+pub struct Marker {
+    pub id: u16,
+    pub x: u16,
+    pub y: u16,
+}
+
+/// The new count of a list, or the refusal.
+#[repr(C)]
+#[derive(Clone, Copy, Debug, PartialEq, Eq)]
+pub struct Counted {
+    pub refusal: u8,
+    pub count: usize,
+}
+
+/// The numbers of rocks' crossings, shut crossings and groups, or the refusal.
+#[repr(C)]
+#[derive(Clone, Copy, Debug, PartialEq, Eq)]
+pub struct Labelling {
+    pub refusal: u8,
+    pub rocks: usize,
+    pub shut: usize,
+    pub groups: usize,
+}
+
+/// The four distances of a crossing, east, south, west, north, or the refusal.
+#[repr(C)]
+#[derive(Clone, Copy, Debug, PartialEq, Eq)]
+pub struct Four {
+    pub refusal: u8,
+    pub four: [u8; 4],
+}
+
+/// Whether home is assured, or the refusal.
+#[repr(C)]
+#[derive(Clone, Copy, Debug, PartialEq, Eq)]
+pub struct Assurance {
+    pub refusal: u8,
+    pub assured: bool,
+}
+
+/// How many hops homeward are permitted, none at home, and where they lead, the east-west one first; or the refusal.
+#[repr(C)]
+#[derive(Clone, Copy, Debug, PartialEq, Eq)]
+pub struct Homeward {
+    pub refusal: u8,
+    pub hops: u8,
+    pub x: usize,
+    pub y: usize,
+    pub a: usize,
+    pub b: usize,
+}
+
+/// How many crossings of the route were filled, or the refusal.
+#[repr(C)]
+#[derive(Clone, Copy, Debug, PartialEq, Eq)]
+pub struct Drove {
+    pub refusal: u8,
+    pub length: usize,
+}
+
+/// Width, height and number of markers of a map that was read, or the refusal.
+#[repr(C)]
+#[derive(Clone, Copy, Debug, PartialEq, Eq)]
+pub struct ReadMap {
+    pub refusal: u8,
+    pub width: usize,
+    pub height: usize,
+    pub count: usize,
+}
+
+/// How many bytes were written, or the refusal.
+#[repr(C)]
+#[derive(Clone, Copy, Debug, PartialEq, Eq)]
+pub struct WroteMap {
+    pub refusal: u8,
+    pub bytes: usize,
+}
+
+extern "C" {
+    pub fn bodkin_enter(
+        list: *mut Marker,
+        lent: usize,
+        count: usize,
+        width: usize,
+        height: usize,
+        id: u16,
+        x: usize,
+        y: usize,
+    ) -> Counted;
+
+    pub fn bodkin_clear(
+        list: *mut Marker,
+        lent: usize,
+        count: usize,
+        width: usize,
+        height: usize,
+        id: u16,
+    ) -> Counted;
+
+    pub fn bodkin_label(
+        list: *const Marker,
+        lent: usize,
+        count: usize,
+        width: usize,
+        height: usize,
+        labels: *mut u8,
+        labels_len: usize,
+    ) -> Labelling;
+
+    pub fn bodkin_distances(
+        list: *const Marker,
+        lent: usize,
+        count: usize,
+        width: usize,
+        height: usize,
+        x: usize,
+        y: usize,
+        labels: *mut u8,
+        labels_len: usize,
+    ) -> Four;
+
+    pub fn bodkin_measure(
+        list: *const Marker,
+        lent: usize,
+        count: usize,
+        width: usize,
+        height: usize,
+        labels: *mut u8,
+        labels_len: usize,
+        east: *mut u8,
+        east_len: usize,
+        south: *mut u8,
+        south_len: usize,
+        west: *mut u8,
+        west_len: usize,
+        north: *mut u8,
+        north_len: usize,
+    ) -> u8;
+
+    pub fn bodkin_assured(
+        list: *const Marker,
+        lent: usize,
+        count: usize,
+        width: usize,
+        height: usize,
+        hx: usize,
+        hy: usize,
+        x: usize,
+        y: usize,
+        labels: *mut u8,
+        labels_len: usize,
+    ) -> Assurance;
+
+    pub fn bodkin_hop(
+        list: *const Marker,
+        lent: usize,
+        count: usize,
+        width: usize,
+        height: usize,
+        hx: usize,
+        hy: usize,
+        x: usize,
+        y: usize,
+        labels: *mut u8,
+        labels_len: usize,
+    ) -> Homeward;
+
+    pub fn bodkin_region(
+        list: *const Marker,
+        lent: usize,
+        count: usize,
+        width: usize,
+        height: usize,
+        sx: usize,
+        sy: usize,
+        dx: usize,
+        dy: usize,
+        labels: *mut u8,
+        labels_len: usize,
+        region: *mut u8,
+        region_len: usize,
+    ) -> u8;
+
+    pub fn bodkin_drive(
+        list: *const Marker,
+        lent: usize,
+        count: usize,
+        width: usize,
+        height: usize,
+        sx: usize,
+        sy: usize,
+        dx: usize,
+        dy: usize,
+        labels: *mut u8,
+        labels_len: usize,
+        region: *mut u8,
+        region_len: usize,
+        route: *mut u16,
+        route_len: usize,
+        state: *mut u32,
+    ) -> Drove;
+
+    pub fn bodkin_read(
+        file: *const u8,
+        file_len: usize,
+        list: *mut Marker,
+        lent: usize,
+    ) -> ReadMap;
+
+    pub fn bodkin_write(
+        list: *const Marker,
+        lent: usize,
+        count: usize,
+        width: usize,
+        height: usize,
+        out: *mut u8,
+        out_len: usize,
+    ) -> WroteMap;
+}
