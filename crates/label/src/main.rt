@@ -1,19 +1,29 @@
 // The labelling program: reads a map file from standard input and prints the map's labels, or why the file is refused.
 ghost use Prim.Native.Nat.{_≤_};
 
-// Prints the text that stands at the front of the output.
-fn print(out: &[u8; 4608], end: usize)
+// Room for the longest text: the first line, and 64 rows of 64 signs, each with its LF.
+const ROOM: usize = 4608;
+
+// "A program takes at most 65,536 input bytes": so many and one more, so that a longer input is told from the longest.
+const INPUT: usize = 65537;
+
+// Prints the text that stands at the front of the output. A program has no exit status to tell a closed output by, so it says it on standard error.
+fn print(out: &[u8; ROOM], end: usize)
     requires { ⌜ end ≤ 4608 ⌝ }
 {
     let whole: &[u8] = out;
-    io::write_all(libc::STDOUT_FILENO, &whole[..end]);
+    if !io::write_all(libc::STDOUT_FILENO, &whole[..end]) {
+        io::write_all(
+            libc::STDERR_FILENO,
+            b"label: the text could not be written\n",
+        );
+    }
 }
 
-// Reads one byte more than a map file may have, so that a longer input is told from the longest.
 fn main() {
-    let mut src = [0u8; 65537];
+    let mut src = [0u8; INPUT];
     let n = io::read_full(libc::STDIN_FILENO, &mut src);
-    let mut out = [0u8; 4608];
+    let mut out = [0u8; ROOM];
     let end = chart::chart(&src[..n], &mut out);
     print(&out, end);
 }

@@ -1,28 +1,20 @@
 /* The map reader and writer from C. With no argument it reads a set of good and damaged files and compares the answers; `read` prints standard input's
  * map as rows of 0 and 1 from the north, or its refusal; `write` writes it again as P4. */
-#include <stdbool.h>
-#include <stddef.h>
-#include <stdint.h>
-#include <stdio.h>
+#include "grainbodkin.h"
+#include "check.h"
+
 #include <string.h>
 
-uint8_t core_read(const uint8_t *src, size_t n, uint16_t *ids, size_t in, uint16_t *xs, size_t xn, uint16_t *ys, size_t yn, size_t *width,
-                  size_t *height, size_t *count);
-uint8_t core_write(const uint8_t *s, size_t n, size_t w, size_t h, uint8_t *out, size_t on, size_t *bytes);
+enum { CROSSINGS = BODKIN_SIDE * BODKIN_SIDE, MOST_BYTES = 65536 };
 
-enum { MOST = 4096, MOST_BYTES = 65536 };
+static struct bodkin_marker list[BODKIN_MARKERS];
+static struct bodkin_read_map map;
+static uint8_t rocks[CROSSINGS], input[MOST_BYTES + 1], output[MOST_BYTES];
 
-static uint16_t ids[MOST], xs[MOST], ys[MOST];
-static uint8_t sheet[MOST], input[MOST_BYTES + 1], output[MOST_BYTES];
-static size_t width, height, count;
-
-static uint8_t read_map(const uint8_t *bytes, size_t n, size_t slots) {
-    uint8_t refusal = core_read(bytes, n, ids, slots, xs, slots, ys, slots, &width, &height, &count);
-    if (refusal == 0) {
-        memset(sheet, 0, sizeof sheet);
-        for (size_t k = 0; k < count; k++) sheet[ys[k] * width + xs[k]] = 1;
-    }
-    return refusal;
+static void read_map(const uint8_t *bytes, size_t n, size_t slots) {
+    map = bodkin_read(bytes, n, list, slots);
+    memset(rocks, 0, sizeof rocks);
+    for (size_t k = 0; k < map.count; k++) rocks[list[k].y * map.width + list[k].x] = 1;
 }
 
 struct row {
@@ -31,7 +23,7 @@ struct row {
     size_t length;
     size_t slots;
     uint8_t refusal;
-    const char *rocks; /* the map's rows from the north, where it is one */
+    const char *raster; /* the map's rows from the north, where it is one */
 };
 
 #define FILE_OF(text) text, sizeof(text) - 1
@@ -74,43 +66,45 @@ static const struct row rows[] = {
     {"no slot, but the raster's fault comes first", FILE_OF("P1 2 1 111"), 1, 15, 0},
 };
 
-static bool same_map(const char *rocks) {
+static bool same_map(const char *raster) {
     size_t k = 0;
-    for (size_t y = height; y-- > 0;)
-        for (size_t x = 0; x < width; x++, k++)
-            if (rocks[k] != (sheet[y * width + x] ? '1' : '0')) return false;
-    return rocks[k] == 0;
+    for (size_t y = map.height; y-- > 0;)
+        for (size_t x = 0; x < map.width; x++, k++)
+            if (raster[k] != (rocks[y * map.width + x] ? '1' : '0')) return false;
+    return raster[k] == 0;
+}
+
+/* Slots from k on are as they were, and the ids before them are 1, 2, 3 and on. */
+static bool slots_right(size_t k) {
+    bool right = true;
+    for (size_t i = 0; i < k; i++) right &= list[i].id == i + 1;
+    for (size_t i = k; i < BODKIN_MARKERS; i++) right &= list[i].id == 0xABCD && list[i].x == 0xABCD && list[i].y == 0xABCD;
+    return right;
 }
 
 static int table(void) {
-    int failed = 0;
     for (size_t i = 0; i < sizeof rows / sizeof *rows; i++) {
-        for (size_t k = 0; k < MOST; k++) ids[k] = xs[k] = ys[k] = 0xABCD;
-        uint8_t refusal = read_map((const uint8_t *)rows[i].bytes, rows[i].length, rows[i].slots);
-        bool right = refusal == rows[i].refusal && (refusal != 0 || same_map(rows[i].rocks));
-        for (size_t k = refusal ? 0 : count; k < MOST; k++) right &= ids[k] == 0xABCD && xs[k] == 0xABCD && ys[k] == 0xABCD;
-        printf("%s: %s\n", right ? "ok" : "FAILED", rows[i].what);
-        failed += !right;
+        for (size_t k = 0; k < BODKIN_MARKERS; k++) list[k].id = list[k].x = list[k].y = 0xABCD;
+        read_map((const uint8_t *)rows[i].bytes, rows[i].length, rows[i].slots);
+        expect(map.refusal == rows[i].refusal && slots_right(map.count) && (map.refusal != 0 || same_map(rows[i].raster)), rows[i].what);
     }
-    printf("%s\n", failed ? "tests/mapfile: FAILED" : "tests/mapfile: all ok");
-    return failed != 0;
+    return verdict("tests/c/files");
 }
 
 int main(int argc, char **argv) {
     if (argc < 2) return table();
-    size_t n = fread(input, 1, sizeof input, stdin);
-    uint8_t refusal = read_map(input, n, MOST);
-    if (refusal) {
-        printf("refused %d\n", refusal);
+    read_map(input, fread(input, 1, sizeof input, stdin), BODKIN_MARKERS);
+    if (map.refusal) {
+        printf("refused %d\n", map.refusal);
         return 1;
     }
     if (strcmp(argv[1], "read") == 0) {
-        printf("%zu %zu\n", width, height);
-        for (size_t y = height; y-- > 0; putchar('\n'))
-            for (size_t x = 0; x < width; x++) putchar(sheet[y * width + x] ? '1' : '0');
+        printf("%zu %zu\n", map.width, map.height);
+        for (size_t y = map.height; y-- > 0; putchar('\n'))
+            for (size_t x = 0; x < map.width; x++) putchar(rocks[y * map.width + x] ? '1' : '0');
         return 0;
     }
-    size_t bytes = 0;
-    if (core_write(sheet, width * height, width, height, output, sizeof output, &bytes)) return 1;
-    return fwrite(output, 1, bytes, stdout) == bytes ? 0 : 1;
+    struct bodkin_wrote_map wrote = bodkin_write(list, BODKIN_MARKERS, map.count, map.width, map.height, output, sizeof output);
+    if (wrote.refusal) return 1;
+    return fwrite(output, 1, wrote.bytes, stdout) == wrote.bytes ? 0 : 1;
 }
