@@ -3,6 +3,7 @@ use mathlib.Core.Path.{_≡_}
 use mathlib.Core.List.{List, [], _∷_, _++_}
 use Prim.Native.Nat.{ℕ, suc, _+_, _*_, _-_, _/_, _%_, _^_, _<_, _≤_}
 use lib.ListN.{length, getD}
+use Rattle.field.specs.Refusals.{bad-header, short-raster, long-raster}
 use Rattle.mapfile.specs.Header.{Blank}
 
 -- How many bytes a packed row has: eight crossings to a byte.
@@ -38,14 +39,14 @@ pub data PlainByte (b : ℕ) : Type 0 where
 
 -- The first fault met in a P4 raster: it "ends early" (14), or there are "bytes after the raster" (15).
 pub data RawFault (w h : ℕ) (l : List ℕ) (n : ℕ) : Type 0 where
-  raw-short : length l < h * rowBytes w → n ≡ 14 → RawFault w h l n
-  raw-long : h * rowBytes w < length l → n ≡ 15 → RawFault w h l n
+  raw-short : length l < h * rowBytes w → n ≡ short-raster → RawFault w h l n
+  raw-long : h * rowBytes w < length l → n ≡ long-raster → RawFault w h l n
 
 -- The first fault met in a P1 raster: "a P1 raster byte before the last digit that is neither digit 0, 1 nor blank" (13); it "ends early" (14);
 -- "bytes after the raster (in P1: other than blanks)" (15).
 pub data PlainFault (w h : ℕ) (l : List ℕ) (n : ℕ) : Type 0 where
-  plain-foreign : (bits front back : List ℕ) (b : ℕ) → Digits bits front → length bits < h * w → ¬ PlainByte b → l ≡ front ++ b ∷ back → n ≡ 13
+  plain-foreign : (bits front back : List ℕ) (b : ℕ) → Digits bits front → length bits < h * w → ¬ PlainByte b → l ≡ front ++ b ∷ back → n ≡ bad-header
       → PlainFault w h l n
-  plain-short : (bits : List ℕ) → Digits bits l → length bits < h * w → n ≡ 14 → PlainFault w h l n
-  plain-long : (bits front back : List ℕ) (b : ℕ) → Digits bits front → length bits ≡ h * w → ¬ Blank b → l ≡ front ++ b ∷ back → n ≡ 15
+  plain-short : (bits : List ℕ) → Digits bits l → length bits < h * w → n ≡ short-raster → PlainFault w h l n
+  plain-long : (bits front back : List ℕ) (b : ℕ) → Digits bits front → length bits ≡ h * w → ¬ Blank b → l ≡ front ++ b ∷ back → n ≡ long-raster
       → PlainFault w h l n
