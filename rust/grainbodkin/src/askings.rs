@@ -29,20 +29,22 @@ impl Markers {
     /// Refuses 4.
     ///
     /// ```
-    /// use grainbodkin::{Map, Markers, Place};
+    /// use grainbodkin::{Clear, Map, Markers, Place, NO_DISTANCE};
     ///
-    /// let mut markers = Markers::new(Map::new(8, 8)?, 1);
-    /// markers.enter(1, Place::new(4, 2))?;
+    /// let mut markers = Markers::new(Map::new(8, 8)?, 3);
+    /// for (id, x, y) in [(1, 3, 2), (2, 4, 3), (3, 5, 2)] {
+    ///     markers.enter(id, Place::new(x, y))?;
+    /// }
+    /// assert_eq!(markers.distances(Place::new(0, 2))?, Clear::from([3, NO_DISTANCE, NO_DISTANCE, NO_DISTANCE]));
     /// assert_eq!(markers.distances(Place::new(4, 0))?.north, Some(2));
-    /// assert_eq!(markers.distances(Place::new(4, 2))?.north, Some(0));
-    /// assert_eq!(markers.distances(Place::new(4, 3))?.north, None);
+    /// assert_eq!(markers.distances(Place::new(4, 2))?, Clear::from([0; 4]));
     /// # Ok::<(), grainbodkin::Refusal>(())
     /// ```
     pub fn distances(&self, place: Place) -> Result<Clear, Refusal> {
         self.lend().distances(place, &mut self.sheet())
     }
 
-    /// The clear distances of the whole map.
+    /// The clear distances of the whole map. [`Distances`] has an example.
     pub fn measure(&self) -> Result<Distances, Refusal> {
         let mut sheets = [self.sheet(), self.sheet(), self.sheet(), self.sheet()];
         let [east, south, west, north] = &mut sheets;
@@ -72,23 +74,37 @@ impl Markers {
         self.lend().assured(home, place, &mut self.sheet())
     }
 
-    /// Every permitted hop from a place towards home.
+    /// Every permitted hop from a place towards home. [`Hops`] has an example.
     ///
     /// Refuses 4, 8 or 11.
     pub fn hop(&self, home: Place, place: Place) -> Result<Hops, Refusal> {
         self.lend().hop(home, place, &mut self.sheet())
     }
 
-    /// The region of shortest drives from s to d.
+    /// The region of shortest drives from s to d, for every open pair, assured or not.
     ///
     /// Refuses 4, 8 or 9.
+    ///
+    /// ```
+    /// use grainbodkin::{Chooser, Map, Markers, Place, Refusal};
+    ///
+    /// let mut markers = Markers::new(Map::new(8, 8)?, 3);
+    /// for (id, x, y) in [(1, 3, 2), (2, 4, 3), (3, 5, 2)] {
+    ///     markers.enter(id, Place::new(x, y))?;
+    /// }
+    /// let s = Place::new(0, 2);
+    /// assert_eq!(markers.region(s, Place::new(7, 2)), Err(Refusal::NoDrive));
+    /// assert!(markers.region(s, Place::new(7, 4))?.contains(Place::new(0, 4)));
+    /// assert_eq!(markers.drive(s, Place::new(7, 4), &mut Chooser(0))?.hops(), 9);
+    /// # Ok::<(), Refusal>(())
+    /// ```
     pub fn region(&self, s: Place, d: Place) -> Result<Region, Refusal> {
         let mut region = self.sheet();
         self.lend().region(s, d, &mut self.sheet(), &mut region)?;
         Ok(Region::new(self.map(), region))
     }
 
-    /// A shortest drive from s to d, made by the chooser, which moves on.
+    /// A shortest drive from s to d, made by the chooser, which moves on. [`Drive`] has an example.
     ///
     /// Refuses 4, 8 or 9; then the chooser is unchanged.
     pub fn drive(&self, s: Place, d: Place, chooser: &mut Chooser) -> Result<Drive, Refusal> {

@@ -7,6 +7,20 @@ use crate::{Map, Place};
 /// What a crossing is.
 ///
 /// Closed crossings are the smallest set that holds all rocks and every crossing with two or more closed neighbours.
+///
+/// ```
+/// use grainbodkin::{Label, Map, Markers, Place};
+///
+/// // Rocks (1,1), (1,2), (2,1): (2,2) is shut, nothing else.
+/// let mut markers = Markers::new(Map::new(8, 8)?, 3);
+/// for (id, x, y) in [(1, 1, 1), (2, 1, 2), (3, 2, 1)] {
+///     markers.enter(id, Place::new(x, y))?;
+/// }
+/// let labels = markers.label()?;
+/// assert_eq!(labels.label(Place::new(2, 2)), Some(Label::Shut));
+/// assert_eq!(labels.shut(), 1);
+/// # Ok::<(), grainbodkin::Refusal>(())
+/// ```
 #[derive(Clone, Copy, Debug, PartialEq, Eq, Hash)]
 #[repr(u8)]
 pub enum Label {
@@ -50,6 +64,16 @@ impl Label {
 }
 
 /// The numbers that labelling hands back.
+///
+/// ```
+/// use grainbodkin::{Labelling, Marker, MarkersRef};
+///
+/// // Rocks (1,1) and (4,1): nothing shut, two groups.
+/// let slots = [Marker::new(1, 1, 1), Marker::new(2, 4, 1)];
+/// let list = MarkersRef { slots: &slots, count: 2, width: 8, height: 8 };
+/// assert_eq!(list.label(&mut [0; 64])?, Labelling { rocks: 2, shut: 0, groups: 2 });
+/// # Ok::<(), grainbodkin::Refusal>(())
+/// ```
 #[derive(Clone, Copy, Debug, PartialEq, Eq, Hash)]
 pub struct Labelling {
     /// Crossings with a rock.
@@ -123,6 +147,16 @@ impl Labels {
     }
 
     /// The rows from the north, each from the west.
+    ///
+    /// ```
+    /// use grainbodkin::{Label, Markers};
+    ///
+    /// let markers = Markers::read(b"P1 3 2 010 000", 1)?;
+    /// let labels = markers.label()?;
+    /// let rows = labels.rows().map(|row| row.map(Label::sign).collect::<String>());
+    /// assert!(rows.eq([".#.", "..."]));
+    /// # Ok::<(), grainbodkin::Refusal>(())
+    /// ```
     pub fn rows(&self) -> impl Iterator<Item = impl Iterator<Item = Label> + '_> + '_ {
         let rows = self.map.rows(&self.sheet);
         rows.map(|row| row.iter().filter_map(|byte| Label::from_byte(*byte)))

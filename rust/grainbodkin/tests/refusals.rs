@@ -160,6 +160,32 @@ fn a_place_off_the_map_is_refused_4() {
     }
 }
 
+/// A marker and places that are on a flat map, and off the tall one of the same size.
+#[test]
+fn a_flat_map_is_not_a_tall_one() {
+    let slots = slots(&[(8, 1)]);
+    let flat = MarkersRef {
+        slots: &slots,
+        count: 1,
+        width: 9,
+        height: 2,
+    };
+    let tall = MarkersRef {
+        width: 2,
+        height: 9,
+        ..flat
+    };
+    for (name, ask) in ASKINGS {
+        let mut lent = Lent::new(18, 18);
+        assert_eq!(ask(flat, at(0, 0), at(7, 0), &mut lent), Ok(()), "{name}");
+        assert_eq!(
+            ask(tall, at(0, 0), at(0, 7), &mut lent),
+            Err(Refusal::BadList),
+            "{name}"
+        );
+    }
+}
+
 /// Each number by an owned list where one can reach it, and by a lent list otherwise.
 #[test]
 fn every_number_is_reached() {
