@@ -209,12 +209,8 @@ extern "C" {
         state: *mut u32,
     ) -> Drove;
 
-    pub fn bodkin_read(
-        file: *const u8,
-        file_len: usize,
-        list: *mut Marker,
-        lent: usize,
-    ) -> ReadMap;
+    pub fn bodkin_read(file: *const u8, file_len: usize, list: *mut Marker, lent: usize)
+        -> ReadMap;
 
     pub fn bodkin_write(
         list: *const Marker,

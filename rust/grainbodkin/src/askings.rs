@@ -1,0 +1,174 @@
+//! The askings of an owned list. Each takes memory for its sheets, for so long as it needs them.
+
+use crate::{
+    Chooser, Clear, Distances, Drive, Hops, Labels, Markers, Place, Refusal, Region, LONGEST_FILE,
+};
+
+impl Markers {
+    /// Labels the map.
+    ///
+    /// ```
+    /// use grainbodkin::{Map, Markers, Place};
+    ///
+    /// // Rocks (0,0) and (1,1) shut (1,0) and (0,1).
+    /// let mut markers = Markers::new(Map::new(8, 8)?, 2);
+    /// markers.enter(1, Place::new(0, 0))?;
+    /// markers.enter(2, Place::new(1, 1))?;
+    /// let labels = markers.label()?;
+    /// assert_eq!((labels.rocks(), labels.shut(), labels.groups()), (2, 2, 1));
+    /// # Ok::<(), grainbodkin::Refusal>(())
+    /// ```
+    pub fn label(&self) -> Result<Labels, Refusal> {
+        let mut sheet = self.sheet();
+        let numbers = self.lend().label(&mut sheet)?;
+        Ok(Labels::new(self.map(), sheet, numbers))
+    }
+
+    /// The four clear distances of a crossing.
+    ///
+    /// Refuses 4.
+    ///
+    /// ```
+    /// use grainbodkin::{Clear, Map, Markers, Place, NO_DISTANCE};
+    ///
+    /// let mut markers = Markers::new(Map::new(8, 8)?, 3);
+    /// for (id, x, y) in [(1, 3, 2), (2, 4, 3), (3, 5, 2)] {
+    ///     markers.enter(id, Place::new(x, y))?;
+    /// }
+    /// assert_eq!(markers.distances(Place::new(0, 2))?, Clear::from([3, NO_DISTANCE, NO_DISTANCE, NO_DISTANCE]));
+    /// assert_eq!(markers.distances(Place::new(4, 0))?.north, Some(2));
+    /// assert_eq!(markers.distances(Place::new(4, 2))?, Clear::from([0; 4]));
+    /// # Ok::<(), grainbodkin::Refusal>(())
+    /// ```
+    pub fn distances(&self, place: Place) -> Result<Clear, Refusal> {
+        self.lend().distances(place, &mut self.sheet())
+    }
+
+    /// The clear distances of the whole map. [`Distances`] has an example.
+    pub fn measure(&self) -> Result<Distances, Refusal> {
+        let mut sheets = [self.sheet(), self.sheet(), self.sheet(), self.sheet()];
+        let [east, south, west, north] = &mut sheets;
+        self.lend()
+            .measure(&mut self.sheet(), east, south, west, north)?;
+        Ok(Distances::new(self.map(), sheets))
+    }
+
+    /// Whether home is assured for a place: both are open and, on each axis, the offset from home to the place is 0, or home's
+    /// distance that way is none, or the offset is less than that distance.
+    ///
+    /// Refuses 4 or 8.
+    ///
+    /// ```
+    /// use grainbodkin::{Markers, Place, Refusal};
+    ///
+    /// // Rocks (3,2), (4,3), (5,2).
+    /// let file = b"P1 8 8 00000000 00000000 00000000 00000000 00001000 00010100 00000000 00000000";
+    /// let markers = Markers::read(file, 3)?;
+    /// let home = Place::new(0, 2);
+    /// assert!(markers.assured(home, Place::new(2, 5))?);
+    /// assert!(!markers.assured(home, Place::new(3, 5))?);
+    /// assert_eq!(markers.assured(home, Place::new(4, 2)), Err(Refusal::EndClosed));
+    /// # Ok::<(), Refusal>(())
+    /// ```
+    pub fn assured(&self, home: Place, place: Place) -> Result<bool, Refusal> {
+        self.lend().assured(home, place, &mut self.sheet())
+    }
+
+    /// Every permitted hop from a place towards home. [`Hops`] has an example.
+    ///
+    /// Refuses 4, 8 or 11.
+    pub fn hop(&self, home: Place, place: Place) -> Result<Hops, Refusal> {
+        self.lend().hop(home, place, &mut self.sheet())
+    }
+
+    /// The region of shortest drives from s to d, for every open pair, assured or not.
+    ///
+    /// Refuses 4, 8 or 9.
+    ///
+    /// ```
+    /// use grainbodkin::{Chooser, Map, Markers, Place, Refusal};
+    ///
+    /// let mut markers = Markers::new(Map::new(8, 8)?, 3);
+    /// for (id, x, y) in [(1, 3, 2), (2, 4, 3), (3, 5, 2)] {
+    ///     markers.enter(id, Place::new(x, y))?;
+    /// }
+    /// let s = Place::new(0, 2);
+    /// assert_eq!(markers.region(s, Place::new(7, 2)), Err(Refusal::NoDrive));
+    /// assert!(markers.region(s, Place::new(7, 4))?.contains(Place::new(0, 4)));
+    /// assert_eq!(markers.drive(s, Place::new(7, 4), &mut Chooser(0))?.hops(), 9);
+    /// # Ok::<(), Refusal>(())
+    /// ```
+    pub fn region(&self, s: Place, d: Place) -> Result<Region, Refusal> {
+        let mut region = self.sheet();
+        self.lend().region(s, d, &mut self.sheet(), &mut region)?;
+        Ok(Region::new(self.map(), region))
+    }
+
+    /// A shortest drive from s to d, made by the chooser, which moves on. [`Drive`] has an example.
+    ///
+    /// Refuses 4, 8 or 9; then the chooser is unchanged.
+    pub fn drive(&self, s: Place, d: Place, chooser: &mut Chooser) -> Result<Drive, Refusal> {
+        // No shortest drive has more crossings than a row and a column together.
+        let mut route = vec![0; self.map().width() + self.map().height()];
+        let length = self.drive_into(s, d, &mut route, chooser)?.len();
+        route.truncate(length);
+        Ok(Drive::new(self.map(), route))
+    }
+
+    /// A shortest drive from s to d into a lent route: hands back the filled part of it, s first and d last. The rest of the
+    /// route is unchanged.
+    ///
+    /// Refuses 4, 8, 9 or 10; then route and chooser are unchanged.
+    ///
+    /// ```
+    /// use grainbodkin::{Chooser, Map, Markers, Place, Refusal};
+    ///
+    /// // On a map 1 by 1 without rocks, (0,0) to itself is a drive of one crossing; with a rock it is refused.
+    /// let mut markers = Markers::new(Map::new(1, 1)?, 1);
+    /// let here = Place::new(0, 0);
+    /// let (mut route, mut chooser) = ([9, 9], Chooser(7));
+    /// assert_eq!(markers.drive_into(here, here, &mut route, &mut chooser)?, [0]);
+    /// assert_eq!((route, chooser), ([0, 9], Chooser(7)));
+    ///
+    /// markers.enter(1, here)?;
+    /// let refused = markers.drive_into(here, here, &mut route, &mut chooser);
+    /// assert_eq!(refused, Err(Refusal::EndClosed));
+    /// # Ok::<(), Refusal>(())
+    /// ```
+    pub fn drive_into<'r>(
+        &self,
+        s: Place,
+        d: Place,
+        route: &'r mut [u16],
+        chooser: &mut Chooser,
+    ) -> Result<&'r mut [u16], Refusal> {
+        let (mut labels, mut region) = (self.sheet(), self.sheet());
+        self.lend()
+            .drive(s, d, &mut labels, &mut region, route, chooser)
+    }
+
+    /// Writes the list as a PBM map, P4. Reading it gives the same crossings.
+    ///
+    /// Refuses 16.
+    ///
+    /// ```
+    /// use grainbodkin::Markers;
+    ///
+    /// let markers = Markers::read(b"P1 4 3 0010 0100 0000", 2)?;
+    /// let file = markers.write()?;
+    /// assert_eq!(file, b"P4\n4 3\n\x20\x40\x00");
+    /// assert_eq!(Markers::read(&file, 2)?, markers);
+    /// # Ok::<(), grainbodkin::Refusal>(())
+    /// ```
+    pub fn write(&self) -> Result<Vec<u8>, Refusal> {
+        let mut out = vec![0; LONGEST_FILE];
+        let bytes = self.lend().write(&mut out)?;
+        out.truncate(bytes);
+        Ok(out)
+    }
+
+    /// Zeros, one byte a crossing.
+    fn sheet(&self) -> Vec<u8> {
+        vec![0; self.map().crossings()]
+    }
+}

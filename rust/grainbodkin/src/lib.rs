@@ -1,0 +1,57 @@
+//! Grainbodkin: the obstacle layer for carts on a grid of crossings.
+//!
+//! It keeps a list of rock markers, labels the crossings of one rectangular map, gives clear distances, tells whether home is
+//! assured, gives the region of shortest drives, makes a drive, gives single hops homeward, reads PBM (plain P1 and raw P4) and
+//! writes P4. The work is done by the proved static library `liblayer.a`; this crate lends its eleven calls in Rust's manner,
+//! with nothing `unsafe` in its interface.
+//!
+//! A journey: read a map, label it, ask whether home is assured, hop home.
+//!
+//! ```
+//! use grainbodkin::{Markers, Place};
+//!
+//! let markers = Markers::read(b"P1 4 3 0010 0100 0000", 100)?;
+//! println!("{}", markers.label()?);
+//! let (home, mut place) = (Place::new(0, 0), Place::new(3, 2));
+//! let far = home.distance(place);
+//! assert!(markers.assured(home, place)?);
+//! let mut hops = 0;
+//! while let Some(next) = markers.hop(home, place)?.first() {
+//!     place = next;
+//!     hops += 1;
+//! }
+//! assert_eq!((place, hops), (home, far));
+//! # Ok::<(), grainbodkin::Refusal>(())
+//! ```
+//!
+//! # Two forms
+//!
+//! [`Markers`] owns its list, and its askings take memory for their sheets: they hand back [`Labels`], [`Distances`],
+//! [`Region`] and [`Drive`]. [`MarkersRef`] and [`MarkersMut`] borrow the caller's list, sheets and route, and take every value
+//! that there is. Both ask the same library, and neither tests anything before it: a call answers, or it gives the lowest
+//! [`Refusal`] that applies.
+
+#![deny(missing_docs, unsafe_code, unsafe_op_in_unsafe_fn)]
+
+mod askings;
+#[allow(unsafe_code)]
+mod calls;
+mod distances;
+mod drives;
+mod hops;
+mod labels;
+mod lent;
+mod map;
+mod marker;
+mod markers;
+mod refusal;
+
+pub use distances::{Clear, Distances, NO_DISTANCE};
+pub use drives::{Chooser, Drive, Region};
+pub use hops::Hops;
+pub use labels::{Label, Labelling, Labels};
+pub use lent::{MarkersMut, MarkersRef};
+pub use map::{Map, Place, LONGEST_FILE, SIDE};
+pub use marker::{Marker, MARKERS};
+pub use markers::Markers;
+pub use refusal::{NoRefusal, Refusal};

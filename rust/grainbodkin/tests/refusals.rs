@@ -1,0 +1,259 @@
+//! The refusals: their numbers, the lowest that applies, and that 1 to 4 change no lent byte of any asking.
+
+mod common;
+
+use std::error::Error;
+
+use common::{at, bad_lists, eight, slots, Lent, ASKINGS, BAD_SIZES, R};
+use grainbodkin::{Map, Markers, MarkersRef, NoRefusal, Refusal, SIDE};
+
+/// Asks all seven, and sees that each is refused so and changes nothing that is lent.
+fn all_refuse(list: MarkersRef<'_>, lent: &Lent, refusal: Refusal) {
+    for (name, ask) in ASKINGS {
+        let mut after = lent.clone();
+        let answer = ask(list, at(8, 8), at(8, 8), &mut after);
+        assert_eq!(answer, Err(refusal), "{name}");
+        assert_eq!(&after, lent, "{name}");
+    }
+}
+
+#[test]
+fn numbers_and_back() {
+    for (number, refusal) in (1..).zip(Refusal::ALL) {
+        assert_eq!(refusal.number(), number);
+        assert_eq!(u8::from(refusal), number);
+        assert_eq!(Refusal::try_from(number), Ok(refusal));
+    }
+    for number in (18..=255).chain([0]) {
+        assert_eq!(Refusal::try_from(number), Err(NoRefusal(number)));
+    }
+}
+
+#[test]
+fn messages_start_with_the_number_and_differ() {
+    let texts: Vec<String> = Refusal::ALL.iter().map(Refusal::to_string).collect();
+    for (number, text) in (1..).zip(&texts) {
+        let start = format!("refused {number}: ");
+        assert!(
+            text.starts_with(&start) && text.len() > start.len() + 10,
+            "{text}"
+        );
+        let same = texts
+            .iter()
+            .filter(|other| other[start.len()..] == text[start.len()..]);
+        assert_eq!(same.count(), 1, "{text}");
+    }
+    let error: Box<dyn Error> = Refusal::NotAssured.into();
+    assert_eq!(error.to_string(), "refused 11: home is not assured");
+    assert_eq!(NoRefusal(18).to_string(), "18 is no refusal's number");
+}
+
+#[test]
+fn a_map_is_refused_exactly_when_the_calls_refuse_its_size() {
+    let sides = (0..=SIDE + 2).chain([usize::MAX]);
+    for (width, height) in sides
+        .clone()
+        .flat_map(|width| sides.clone().map(move |height| (width, height)))
+    {
+        let list = MarkersRef {
+            width,
+            height,
+            ..eight(&[])
+        };
+        // An empty sheet is no map's: the calls refuse 1, or else 2.
+        let refused = list.label(&mut []).unwrap_err();
+        assert_eq!(
+            Map::new(width, height).is_err(),
+            refused == Refusal::BadSize
+        );
+    }
+}
+
+#[test]
+fn a_bad_size_is_refused_1() {
+    let slots = slots(&R);
+    for (width, height) in BAD_SIZES {
+        let list = MarkersRef {
+            width,
+            height,
+            count: 9,
+            ..eight(&slots)
+        };
+        all_refuse(list, &Lent::new(7, 0), Refusal::BadSize);
+    }
+}
+
+#[test]
+fn a_sheet_of_another_size_is_refused_2() {
+    let slots = slots(&R);
+    let list = MarkersRef {
+        count: 9,
+        ..eight(&slots)
+    };
+    for bytes in [0, 63, 65, 4096] {
+        all_refuse(list, &Lent::new(bytes, 0), Refusal::BadSheet);
+    }
+}
+
+/// One sheet alone is of another size: the askings that are lent it refuse 2.
+#[test]
+fn each_lent_sheet_counts() {
+    type Sheet = fn(&mut Lent) -> &mut Vec<u8>;
+    let sheets: [(Sheet, &[&str]); 5] = [
+        (|lent| &mut lent.region, &["region", "drive"]),
+        (|lent| &mut lent.east, &["measure"]),
+        (|lent| &mut lent.south, &["measure"]),
+        (|lent| &mut lent.west, &["measure"]),
+        (|lent| &mut lent.north, &["measure"]),
+    ];
+    let slots = slots(&R);
+    for (sheet, lent_to) in sheets {
+        let mut lent = Lent::new(64, 64);
+        sheet(&mut lent).push(0);
+        for (name, ask) in ASKINGS {
+            let mut after = lent.clone();
+            let answer = ask(eight(&slots), at(0, 0), at(1, 0), &mut after);
+            assert_eq!(
+                answer == Err(Refusal::BadSheet),
+                lent_to.contains(&name),
+                "{name}"
+            );
+            assert_eq!(after == lent, lent_to.contains(&name), "{name}");
+        }
+    }
+}
+
+#[test]
+fn a_bad_list_is_refused_3() {
+    for (slots, count) in bad_lists() {
+        let list = MarkersRef {
+            count,
+            ..eight(&slots)
+        };
+        all_refuse(list, &Lent::new(64, 0), Refusal::BadList);
+    }
+}
+
+#[test]
+fn a_place_off_the_map_is_refused_4() {
+    let slots = slots(&R);
+    let off = [at(8, 0), at(0, 8), at(usize::MAX, usize::MAX)];
+    for (name, ask) in ASKINGS {
+        // Label and measure ask for no place, and distances only for the one.
+        let ends = match name {
+            "label" | "measure" => continue,
+            "distances" => off.map(|place| (at(0, 0), place)).to_vec(),
+            _ => off
+                .iter()
+                .flat_map(|place| [(*place, at(4, 2)), (at(4, 2), *place)])
+                .collect(),
+        };
+        for (one, other) in ends {
+            let mut after = Lent::new(64, 0);
+            assert_eq!(
+                ask(eight(&slots), one, other, &mut after),
+                Err(Refusal::BadPlace),
+                "{name}"
+            );
+            assert_eq!(after, Lent::new(64, 0), "{name}");
+        }
+    }
+}
+
+/// A marker and places that are on a flat map, and off the tall one of the same size.
+#[test]
+fn a_flat_map_is_not_a_tall_one() {
+    let slots = slots(&[(8, 1)]);
+    let flat = MarkersRef {
+        slots: &slots,
+        count: 1,
+        width: 9,
+        height: 2,
+    };
+    let tall = MarkersRef {
+        width: 2,
+        height: 9,
+        ..flat
+    };
+    for (name, ask) in ASKINGS {
+        let mut lent = Lent::new(18, 18);
+        assert_eq!(ask(flat, at(0, 0), at(7, 0), &mut lent), Ok(()), "{name}");
+        assert_eq!(
+            ask(tall, at(0, 0), at(0, 7), &mut lent),
+            Err(Refusal::BadList),
+            "{name}"
+        );
+    }
+}
+
+/// Each number by an owned list where one can reach it, and by a lent list otherwise.
+#[test]
+fn every_number_is_reached() {
+    let mut markers = common::owned(&R);
+    let (mut labels, mut chooser) = ([0; 64], grainbodkin::Chooser(0));
+    let no_size = MarkersRef {
+        width: 0,
+        ..eight(&[])
+    };
+    let over = MarkersRef {
+        count: 1,
+        ..eight(&[])
+    };
+    let full = Markers::new(markers.map(), 0).enter(1, at(0, 0));
+    let read = |file: &[u8]| Markers::read(file, 9).unwrap_err();
+    let mut reached = vec![
+        no_size.label(&mut labels).unwrap_err(),
+        markers.lend().label(&mut labels[1..]).unwrap_err(),
+        over.label(&mut labels).unwrap_err(),
+        markers.distances(at(8, 0)).unwrap_err(),
+        markers.enter(1, at(0, 0)).unwrap_err(),
+        markers.clear(4).unwrap_err(),
+        full.unwrap_err(),
+        markers.assured(at(4, 2), at(0, 0)).unwrap_err(),
+        markers.region(at(0, 2), at(7, 2)).unwrap_err(),
+        markers
+            .drive_into(at(0, 0), at(1, 0), &mut [0], &mut chooser)
+            .unwrap_err(),
+        markers.hop(at(0, 2), at(3, 5)).unwrap_err(),
+        read(b"P7"),
+        read(b"P4 8"),
+        read(b"P4 8 1 "),
+        read(b"P4 8 1 .."),
+    ];
+    markers.enter(4, at(3, 2)).unwrap();
+    reached.push(markers.write().unwrap_err());
+    markers.clear(4).unwrap();
+    reached.push(markers.lend().write(&mut [0; 14]).unwrap_err());
+    assert_eq!(reached, Refusal::ALL);
+}
+
+/// Every call answers or refuses, whatever the numbers are. Sheets of 64 bytes and R's rocks fit an empty list's askings alone.
+#[test]
+fn hostile_numbers_are_answered() {
+    let numbers = [0, 1, 3, 64, 65, 1 << 32, usize::MAX];
+    let pairs = || {
+        numbers
+            .iter()
+            .flat_map(|one| numbers.map(|other| (*one, other)))
+    };
+    let slots = slots(&R);
+    let mut lent = Lent::new(64, 5);
+    for (width, height) in pairs() {
+        let size = Map::new(width, height);
+        for (count, x) in pairs() {
+            let list = MarkersRef {
+                slots: &slots,
+                count,
+                width,
+                height,
+            };
+            let fits = count == 0 && size.is_ok_and(|map| map.crossings() == 64);
+            for (name, ask) in ASKINGS {
+                let answer = ask(list, at(x, 0), at(1, x), &mut lent);
+                assert!(fits || answer.is_err(), "{name} {list:?} {x}");
+            }
+            let written = list.write(&mut lent.labels);
+            assert_eq!(written == Err(Refusal::BadSize), size.is_err());
+        }
+    }
+}
