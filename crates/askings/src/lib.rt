@@ -5,7 +5,7 @@ mod refusals; // refusals.rt: their numbers
 
 use refusals::SUCCESS;
 ghost use Rattle.askings.specs.Promise.{MayLabel, MayAsk, MayAskTwo, MayMeasure, MayDrive};
-ghost use Rattle.askings.specs.Promise.{LabelRest, DistancesRest, MeasureRest, AssuredRest, HopRest, RegionRest, DriveRest};
+ghost use Rattle.askings.specs.Promise.{LabelRest, DistancesRest, MeasureRest, AssuredRest, HopRest, RegionRest, DriveRest, RouteRest};
 
 // n where no refusal was found before.
 const UNREFUSED: u8 = 0;
@@ -203,4 +203,29 @@ pub fn drive(
     }
     labels::label(labels, w, h);
     answers::drive(labels, w, h, sx, sy, dx, dy, region, route, state)
+}
+
+// The same drive, handed back as the leading part of the lent route: s first and d last, and on a refusal empty. The number, 0 on success, goes out
+// through `refusal`. Nothing is written to the route after `drive`, which says what the rest of it holds.
+pub fn route<'a>(
+    n: u8,
+    w: usize,
+    h: usize,
+    sx: usize,
+    sy: usize,
+    dx: usize,
+    dy: usize,
+    labels: &mut [u8],
+    region: &mut [u8],
+    route: &'a mut [u16],
+    refusal: &mut u8,
+    state: &mut u32,
+) -> &'a mut [u16]
+    requires { ⌜ MayDrive n w h sx sy dx dy (now labels) (now region) ⌝ }
+    ensures { λ r. ⌜ RouteRest n w h sx sy dx dy (now (labels .entry)) (now (region .entry)) (now (route .entry)) (now (state .entry)) (now (labels .exit)) (now (region .exit)) (now r) (now (refusal .exit)) (now (state .exit)) ⌝ }
+{
+    let drove = drive(n, w, h, sx, sy, dx, dy, labels, region, route, state);
+    *refusal = drove.refusal;
+    let length = drove.length;
+    &mut route[..length]
 }

@@ -18,12 +18,13 @@ use Rattle.field.specs.Workings.DriveLaws.{has-drive-open, has-drive-open-end}
 use Rattle.field.specs.Workings.SameLaws.{alike-back, open-same, assured-same, answers-same, has-drive-same, region-sheet-same, driven-same}
 use Rattle.askings.specs.declared.Homeward.{Homeward}
 use Rattle.askings.specs.declared.Drove.{Drove}
-use Rattle.askings.specs.Promise.{MayDrive, no-hop, homeward, HopRest, HopsAnswer, RegionRest, RegionAnswer, DriveRest, DriveAnswer, end-is-closed, no-home, hops, nowhere, somewhere, no-region, short, filled}
+use Rattle.askings.specs.Promise.{MayDrive, no-hop, homeward, HopRest, HopsAnswer, RegionRest, RegionAnswer, DriveRest, DriveAnswer, RouteRest, end-is-closed, no-home, hops, nowhere, somewhere, no-region, short, filled}
 use Rattle.layer.specs.Rules
 use Rattle.layer.specs.Rules.{Rule, Gives, ClosedBy}
 use Rattle.layer.specs.Judging.{Fits}
 use Rattle.layer.specs.Prepared.{Prepared}
-use Rattle.layer.specs.Calls.{HopCall, RegionCall, RegionAfter, DriveCall}
+use Rattle.layer.specs.Calls.{HopCall, RegionCall, RegionAfter, DriveCall, RouteCall}
+use Rattle.layer.specs.RouteCalls.{drive-part}
 use Rattle.layer.proofs.Tables.{not-no}
 use Rattle.layer.proofs.Joining.{Asked, none-tell, one-tells, refusal-early, others-good, sheet-stamped, places-good, closed-alike, end-closed-by, ends-open-by, refused-two, answered-two}
 
@@ -191,3 +192,7 @@ module _ {list : List Marker} {count w h sx sy dx dy : ℕ} {others : Bool} {lab
           (refused-two p (g ∷ []) (one-tells g told) (after-places (Rules.route-rule list count w h sx sy dx dy route ∷ [])) f refl (k .0))
           (sheet-kept (early .0) (omega (arith, early .1)) (k .1))
       go (yes z) = by-answer z (e .done z .0) (e .done z .1)
+
+  pub route-joined : {g : List ℕ} → ((others ≡ true) ↔ Fits w h (length g)) → {route t g′ part : List ℕ} {state number state′ : ℕ}
+      → RouteRest n w h sx sy dx dy s g route state t g′ part number state′ → RouteCall list count w h sx sy dx dy labels g route state t g′ part number state′
+  route-joined told e = rw (e .part-is) (drive-part (drive-joined told (e .drove)))

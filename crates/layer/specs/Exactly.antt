@@ -24,6 +24,7 @@ use Rattle.layer.specs.Calls.{
   HopCall,
   RegionCall,
   DriveCall,
+  RouteCall,
   ReadCall,
   WriteCall,
 }
@@ -73,6 +74,12 @@ module _ {list : List Marker} {count w h : ℕ} where
       → DriveCall list count w h sx sy dx dy labels region route state labels′ region′ route′ state′ r
       → Exactly (Rules.drive-table list count w h sx sy dx dy labels region route) (r .refusal)
   drive-exactly {sx} {sy} {dx} {dy} {labels} {region} {route} c =
+      exactly (Rules.drive-table list count w h sx sy dx dy labels region route) _ (omega arith) (c .given)
+
+  pub route-exactly : {sx sy dx dy : ℕ} {labels region route labels′ region′ part : List ℕ} {state number state′ : ℕ}
+      → RouteCall list count w h sx sy dx dy labels region route state labels′ region′ part number state′
+      → Exactly (Rules.drive-table list count w h sx sy dx dy labels region route) number
+  route-exactly {sx} {sy} {dx} {dy} {labels} {region} {route} c =
       exactly (Rules.drive-table list count w h sx sy dx dy labels region route) _ (omega arith) (c .given)
 
   pub write-exactly : {out out′ : List ℕ} {r : WroteMap} → WriteCall list count w h out out′ r → Exactly (Rules.write-table list count w h out) (r .refusal)

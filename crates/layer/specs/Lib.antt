@@ -10,6 +10,7 @@ pub mod ListCalls
 pub mod HopCalls
 pub mod LabelCalls
 pub mod DriveCalls
+pub mod RouteCalls
 pub mod Agree
 pub mod Unread
 pub mod Demands

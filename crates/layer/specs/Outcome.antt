@@ -34,6 +34,7 @@ use Rattle.layer.specs.Calls.{
   HopCall,
   RegionCall,
   DriveCall,
+  RouteCall,
   ReadCall,
   WriteCall,
 }
@@ -214,6 +215,24 @@ module _ {list : List Marker} {count w h : ℕ} where
           let u = p .refused k in
           let v = q .refused (λ j. k (e ∙ j)) in
           (u .0 ∙ sym (v .0), u .1 ∙ sym (v .1), u .2 ∙ sym (v .2))
+
+  pub route-one : {sx sy dx dy : ℕ} {labels region route a c m b d n : List ℕ} {state r s z z′ : ℕ}
+      → RouteCall list count w h sx sy dx dy labels region route state a c m r z
+      → RouteCall list count w h sx sy dx dy labels region route state b d n s z′
+      → (m ≡ n) × (r ≡ s) × (z ≡ z′) × (a ≡ b) × (c ≡ d)
+  route-one {sx} {sy} {dx} {dy} {labels} {region} {route} {m = m} {n = n} {r = r} {s = s} {z = z} {z′ = z′} p q =
+      let t = go (ℕ-discrete r 0) in
+      (t .0, e, t .1, labels-after-one e (p .labels-after) (q .labels-after), region-after-one e (p .region-after) (q .region-after))
+    where
+      e : r ≡ s
+      e = gives-one (Rules.drive-table list count w h sx sy dx dy labels region route) _ _ (p .given) (q .given)
+
+      go : Dec (r ≡ 0) → (m ≡ n) × (z ≡ z′)
+      go (yes k) = driven-one w h (ClosedBy list count w h) sx sy dx dy (p .done k) (q .done (sym e ∙ k))
+      go (no k) =
+          let u = p .refused k in
+          let v = q .refused (λ j. k (e ∙ j)) in
+          (u .0 ∙ sym (v .0), u .1 ∙ sym (v .1))
 
   pub write-one : {out a b : List ℕ} {r s : WroteMap} → WriteCall list count w h out a r → WriteCall list count w h out b s → (r ≡ s) × (a ≡ b)
   write-one {out} {a} {b} {r} {s} p q = go (ℕ-discrete (r .refusal) 0)

@@ -23,6 +23,7 @@ use Rattle.layer.specs.Calls.{
   HopCall,
   RegionCall,
   DriveCall,
+  RouteCall,
   ReadCall,
   WriteCall,
 }
@@ -116,6 +117,18 @@ module _ {list other : List Marker} {count w h : ℕ} (a : Agree list other coun
       → DriveCall list count w h sx sy dx dy labels region route state labels′ region′ route′ state′ r
       → DriveCall other count w h sx sy dx dy labels region route state labels′ region′ route′ state′ r
   drive-unread c =
+      record {
+        given = asked-moved a (c .given) (λ e g. rw e at g);
+        labels-after = labels-moved a (c .given) (c .labels-after);
+        region-after = region-moved a (c .given) (c .region-after);
+        refused = c .refused;
+        done = λ z. rw (asked-in-use a (c .given) (λ t. omega arith)) at (c .done z);
+      }
+
+  pub route-unread : {sx sy dx dy : ℕ} {labels region route labels′ region′ part : List ℕ} {state number state′ : ℕ}
+      → RouteCall list count w h sx sy dx dy labels region route state labels′ region′ part number state′
+      → RouteCall other count w h sx sy dx dy labels region route state labels′ region′ part number state′
+  route-unread c =
       record {
         given = asked-moved a (c .given) (λ e g. rw e at g);
         labels-after = labels-moved a (c .given) (c .labels-after);
