@@ -105,7 +105,7 @@ int main(void) {
         char name[32];
         snprintf(name, sizeof name, "read, %zu comments", n);
         comments(n);
-        compare(name, read_map, (25 << 10) + 64 * n);
+        compare(name, read_map, 25 << 10);
     }
     return failed != 0;
 }

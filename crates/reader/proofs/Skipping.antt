@@ -3,7 +3,7 @@ use mathlib.Core.Path.{_≡_, refl, sym, ap, _∙_}
 use mathlib.Core.Bool.{Bool, true, false}
 use mathlib.Core.List.{List, _∷_}
 use mathlib.Core.Option.{none}
-use Prim.Native.Nat.{ℕ, _+_, _<_, _≤_}
+use Prim.Native.Nat.{ℕ, zero, suc, _+_, _<_, _≤_}
 use native.Mathlib.Omega.{arith}
 use native.Mathlib.Numerals.{add-one}
 use lib.ListN.{length, getD, drop, drop-of-length-le}
@@ -21,21 +21,32 @@ use Rattle.mapfile.specs.HeaderWorking.{
   comment-ends,
   comment-goes-on,
 }
-use Rattle.reader.specs.HeaderParts.{GapRead, gapEnd}
+use Rattle.reader.specs.HeaderParts.{GapRead, gapEnd, gapAt, Past, MaySkip}
 use Rattle.reader.specs.declared.header.Gap.{Gap}
+use Rattle.reader.specs.declared.header.Gap.the-variants.{Ends}
+
+-- The other skipper may begin after a byte that was passed.
+pub may-skip-on : {s : List ℕ} {at : ℕ} {seen : Bool} (i : ℕ) (any : Bool) → MaySkip s at seen → i < length s → MaySkip s (i + 1) any
+may-skip-on i any m l = record { counted = m .counted; within = omega arith; past = λ e. omega arith }
 
 -- The bytes left, by the first of them.
 pub left-cons : (s : List ℕ) (i : ℕ) → i < length s → drop i s ≡ getD s i 0 ∷ drop (i + 1) s
 left-cons s i l = rw add-one (drop-cons s i 0 l)
 
+-- An end that is not 0 is a separator's end.
+pub gap-at : (e : ℕ) → ¬ (e ≡ 0) → Ends e ≡ gapAt e
+gap-at zero p = absurd (p refl)
+gap-at (suc e) p = refl
+
 -- At i, with what was seen so far, the items end where they end from `at`.
 pub record SkippingBlanks (s : List ℕ) (at : ℕ) (seen : Bool) (i : ℕ) (any : Bool) : Type 0 where
   pub from : at ≤ i
   pub within : i ≤ length s
+  pub past : Past i any
   pub same : afterItems (drop at s) seen ≡ afterItems (drop i s) any
 
-pub blanks-start : (s : List ℕ) (at : ℕ) (seen : Bool) → at ≤ length s → SkippingBlanks s at seen at seen
-blanks-start s at seen l = record { from = omega arith; within = l; same = refl }
+pub blanks-start : (s : List ℕ) (at : ℕ) (seen : Bool) → MaySkip s at seen → SkippingBlanks s at seen at seen
+blanks-start s at seen m = record { from = omega arith; within = m .within; past = m .past; same = refl }
 
 module _ {s : List ℕ} {at i : ℕ} {seen any : Bool} (k : SkippingBlanks s at seen i any) where
   pub blanks-more : i < length s → Blank (getD s i 0) → SkippingBlanks s at seen (i + 1) true
@@ -43,6 +54,7 @@ module _ {s : List ℕ} {at i : ℕ} {seen any : Bool} (k : SkippingBlanks s at 
       record {
         from = omega (arith, k .from);
         within = omega arith;
+        past = λ e. omega arith;
         same = k .same ∙ ap (λ (m : List ℕ). afterItems m any) (left-cons s i l) ∙ items-blank (drop (i + 1) s) any b;
       }
 
@@ -72,8 +84,8 @@ pub record SkippingComment (s : List ℕ) (at : ℕ) (seen : Bool) (i : ℕ) : T
   pub within : i ≤ length s
   pub same : afterComment (drop at s) seen ≡ afterComment (drop i s) seen
 
-pub comment-start : (s : List ℕ) (at : ℕ) (seen : Bool) → at ≤ length s → SkippingComment s at seen at
-comment-start s at seen l = record { from = omega arith; within = l; same = refl }
+pub comment-start : (s : List ℕ) (at : ℕ) (seen : Bool) → MaySkip s at seen → SkippingComment s at seen at
+comment-start s at seen m = record { from = omega arith; within = m .within; same = refl }
 
 module _ {s : List ℕ} {at i : ℕ} {seen : Bool} (k : SkippingComment s at seen i) where
   pub comment-more : i < length s → ¬ LineEnd (getD s i 0) → SkippingComment s at seen (i + 1)

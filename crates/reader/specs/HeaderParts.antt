@@ -4,6 +4,8 @@ use mathlib.Core.Bool.{Bool, true, false}
 use mathlib.Core.List.{List, [], _∷_}
 use mathlib.Core.Option.{Option, none, some}
 use Prim.Native.Nat.{ℕ, zero, suc, _≤_}
+use mir.Syntax.{w64}
+use mir.Val.{Fits}
 use lib.ListN.{length, getD, drop}
 use Rattle.mapfile.specs.Header.{Header}
 use Rattle.mapfile.specs.HeaderWorking.{Value, value, no-value}
@@ -37,6 +39,21 @@ GapRead src o Missing = o ≡ none
 abbrev pub gapEnd : ℕ → Bool → Gap
 gapEnd at true = Ends at
 gapEnd at false = Missing
+
+-- A separator's end as one number: 0 says that there is none.
+abbrev pub gapAt : ℕ → Gap
+gapAt zero = Missing
+gapAt (suc e) = Ends (suc e)
+
+-- A blank that was seen stands before this place. So no separator ends at 0.
+abbrev pub Past : ℕ → Bool → Type 0
+Past at seen = seen ≡ true → 1 ≤ at
+
+-- Where a skipper may begin. That its length is a machine's number, a slice behind a reference does not say of itself.
+pub record MaySkip (src : List ℕ) (at : ℕ) (seen : Bool) : Type 0 where
+  pub counted : Fits w64 (length src)
+  pub within : at ≤ length src
+  pub past : Past at seen
 
 -- A number and its end, against what the working gives.
 abbrev pub NumeralRead : List ℕ → Value → Numeral → Type 0

@@ -1,13 +1,13 @@
 // The header: "Then a separator, the width, a separator, the height, exactly one blank byte". Each part says where it ends, so that the next begins
 // there.
 ghost use mathlib.Core.Path.{_≡_};
-ghost use mathlib.Core.Bool.{true};
+ghost use mathlib.Core.Bool.{true, false};
 ghost use mathlib.Core.Logic.{_↔_};
 ghost use Prim.Native.Nat.{ℕ, _≤_};
 ghost use lib.ListN.{length, drop};
 ghost use Rattle.mapfile.specs.Header.{Blank, LineEnd, Digit};
 ghost use Rattle.mapfile.specs.HeaderWorking.{afterItems, afterComment, numberFrom, nextNumber, lastBlank};
-ghost use Rattle.reader.specs.HeaderParts.{GapRead, gapEnd, NumeralRead, numeralEnd, HeadRead};
+ghost use Rattle.reader.specs.HeaderParts.{GapRead, gapEnd, gapAt, Past, MaySkip, NumeralRead, numeralEnd, HeadRead};
 
 // "A number is 1 to 9 decimal digits."
 const MOST_DIGITS: usize = 9;
@@ -62,28 +62,35 @@ fn is_line_end(b: u8) -> bool
     false
 }
 
-// A separator that ends at this place: one if a blank was seen in it.
-fn gap_end(at: usize, seen: bool) -> Gap
-    ensures { λ r. ⌜ r ≡ gapEnd at seen ⌝ }
+// The end of a separator that ends at this place: it is one if a blank was seen in it. 0 says that there is none.
+fn gap_end(at: usize, seen: bool) -> usize
+    requires { ⌜ Past at seen ⌝ }
+    ensures { λ r. ⌜ gapAt r ≡ gapEnd at seen ⌝ }
 {
     if seen {
-        return Gap::Ends(at);
+        return at;
     }
-    Gap::Missing
+    0
 }
 
-// Skips blanks, and at a # hands on to the comment skipper: so over all items of a separator. `seen`: a blank was among the items before.
-fn skip_blanks(src: &[u8], at: usize, seen: bool) -> Gap
-    requires { ⌜ at ≤ length (now src) ⌝ }
-    ensures { λ r. ⌜ GapRead (now (src .entry)) (afterItems (drop at (now (src .entry))) seen) r ⌝ }
+// Skips blanks, and at a # hands on to the comment skipper: so over all items of a separator. `seen`: a blank was among the items before. The answer
+// is the separator's end, or 0 if there is none: a blank stands before the end, so that no separator ends at 0.
+//
+// The skippers call each other as the last thing that they do, and the compiler makes jumps of these calls, so that many comments take no more stack
+// than one. It can do so while all that a call hands over goes in registers: hence the answer is a number and no `Gap`, and the bytes are lent by a
+// reference to the slice.
+fn skip_blanks(src: &&[u8], at: usize, seen: bool) -> usize
+    requires { ⌜ MaySkip (now (now src)) at seen ⌝ }
+    ensures { λ r. ⌜ GapRead (now (now (src .entry))) (afterItems (drop at (now (now (src .entry)))) seen) (gapAt r) ⌝ }
 {
+    let bytes = *src;
     let mut i = at;
     let mut any = seen;
-    while i < src.len() {
-        if src[i] == b'#' {
+    while i < bytes.len() {
+        if bytes[i] == b'#' {
             return skip_comment(src, i + 1, any);
         }
-        if !is_blank(src[i]) {
+        if !is_blank(bytes[i]) {
             return gap_end(i, any);
         }
         any = true;
@@ -93,18 +100,31 @@ fn skip_blanks(src: &[u8], at: usize, seen: bool) -> Gap
 }
 
 // Skips a comment through the CR or LF that ends it, and hands on to the blank skipper. A comment that never ends makes no separator.
-fn skip_comment(src: &[u8], at: usize, seen: bool) -> Gap
-    requires { ⌜ at ≤ length (now src) ⌝ }
-    ensures { λ r. ⌜ GapRead (now (src .entry)) (afterComment (drop at (now (src .entry))) seen) r ⌝ }
+fn skip_comment(src: &&[u8], at: usize, seen: bool) -> usize
+    requires { ⌜ MaySkip (now (now src)) at seen ⌝ }
+    ensures { λ r. ⌜ GapRead (now (now (src .entry))) (afterComment (drop at (now (now (src .entry)))) seen) (gapAt r) ⌝ }
 {
+    let bytes = *src;
     let mut i = at;
-    while i < src.len() {
-        if is_line_end(src[i]) {
+    while i < bytes.len() {
+        if is_line_end(bytes[i]) {
             return skip_blanks(src, i + 1, seen);
         }
         i += 1;
     }
-    Gap::Missing
+    0
+}
+
+// Where the separator ends that begins at this place: "one or more items, each a blank or a comment, at least one of them a blank".
+fn separator(src: &[u8], at: usize) -> Gap
+    requires { ⌜ at ≤ length (now src) ⌝ }
+    ensures { λ r. ⌜ GapRead (now (src .entry)) (afterItems (drop at (now (src .entry))) false) r ⌝ }
+{
+    let end = skip_blanks(&src, at, false);
+    if end == 0 {
+        return Gap::Missing;
+    }
+    Gap::Ends(end)
 }
 
 // Whether the byte is a decimal digit.
@@ -156,7 +176,7 @@ fn next_number(src: &[u8], at: usize) -> Numeral
     requires { ⌜ at ≤ length (now src) ⌝ }
     ensures { λ r. ⌜ NumeralRead (now (src .entry)) (nextNumber (drop at (now (src .entry)))) r ⌝ }
 {
-    let gap = skip_blanks(src, at, false);
+    let gap = separator(src, at);
     match gap {
         Gap::Ends(i) => number(src, i),
         Gap::Missing => Numeral::Missing,

@@ -207,7 +207,7 @@ impl<'a> MarkersMut<'a> {
     /// slots stay.
     ///
     /// Refuses 12, then 13 in the header, 1, then at the first fault met in the raster 13, 14 or 15, then 7; no slot changes
-    /// then. Each comment of a separator takes some 64 bytes of stack while it is read: bound the length of strange files.
+    /// then.
     ///
     /// ```
     /// use grainbodkin::{Marker, MarkersMut};

@@ -45,8 +45,7 @@ impl Markers {
     /// Reads a PBM map, P1 or P4, into a list with room for so many markers. Its rocks become markers with ids 1, 2, 3 and on,
     /// in raster order, the first row being the northmost.
     ///
-    /// Refuses 12, then 13 in the header, 1, then at the first fault met in the raster 13, 14 or 15, then 7. Each comment of a
-    /// separator takes some 64 bytes of stack while it is read: bound the length of strange files.
+    /// Refuses 12, then 13 in the header, 1, then at the first fault met in the raster 13, 14 or 15, then 7.
     ///
     /// ```
     /// use grainbodkin::{Marker, Markers, Refusal};

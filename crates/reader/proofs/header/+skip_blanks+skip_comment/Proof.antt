@@ -4,8 +4,10 @@ use Prim.Native.Nat.{ℕ, _-_, _<_}
 use native.Mathlib.Omega.{arith}
 use borrow.Author.Tests.{not-true, not-false}
 use lib.ListN.{length}
+use Rattle.reader.specs.HeaderParts.{gapAt}
 use Rattle.reader.proofs.Answers.{answered-no}
 use Rattle.reader.proofs.Skipping.{
+  may-skip-on,
   SkippingBlanks,
   blanks-start,
   blanks-more,
@@ -32,30 +34,30 @@ use Rattle.reader.proofs.header.is_line_end.Reads as is-line-end-reads
 use Rattle.reader.proofs.header.+skip_blanks+skip_comment.{statement}
 use Rattle.reader.proofs.header.+skip_blanks+skip_comment.Tie.{close}
 
-abbrev μ-blanks : Measures 1 blanks-kinds.ps ℕ
-μ-blanks κs a = length (a .0 .now) - a .1 .0
+abbrev μ-blanks : Measures 2 blanks-kinds.ps ℕ
+μ-blanks κs a = length (a .0 .now .now) - a .1 .0
 
-abbrev μ-comment : Measures 1 comment-kinds.ps ℕ
-μ-comment κs a = length (a .0 .now) - a .1 .0
+abbrev μ-comment : Measures 2 comment-kinds.ps ℕ
+μ-comment κs a = length (a .0 .now .now) - a .1 .0
 
-abbrev blanks-at : ℕ → In 1 blanks-kinds.ps
+abbrev blanks-at : ℕ → In 2 blanks-kinds.ps
 blanks-at t =
-    and 1 blanks-kinds.ps (is 1 blanks-kinds.ps μ-blanks t) blanks.Pre
+    and 2 blanks-kinds.ps (is 2 blanks-kinds.ps μ-blanks t) blanks.Pre
 
-abbrev blanks-below : ℕ → In 1 blanks-kinds.ps
+abbrev blanks-below : ℕ → In 2 blanks-kinds.ps
 blanks-below t =
-    and 1 blanks-kinds.ps (falls 1 blanks-kinds.ps _<_ μ-blanks t) blanks.Pre
+    and 2 blanks-kinds.ps (falls 2 blanks-kinds.ps _<_ μ-blanks t) blanks.Pre
 
-abbrev comment-at : ℕ → In 1 comment-kinds.ps
+abbrev comment-at : ℕ → In 2 comment-kinds.ps
 comment-at t =
-    and 1 comment-kinds.ps (is 1 comment-kinds.ps μ-comment t) comment.Pre
+    and 2 comment-kinds.ps (is 2 comment-kinds.ps μ-comment t) comment.Pre
 
-abbrev comment-below : ℕ → In 1 comment-kinds.ps
+abbrev comment-below : ℕ → In 2 comment-kinds.ps
 comment-below t =
     and
-    1
+    2
     comment-kinds.ps
-    (falls 1 comment-kinds.ps _<_ μ-comment t)
+    (falls 2 comment-kinds.ps _<_ μ-comment t)
     comment.Pre
 
 -- What each knows of its callees.
@@ -66,16 +68,16 @@ abbrev comment-calls : ℕ → comment-lts.Claims
 comment-calls t = (is-line-end-reads.Asked, is-line-end-reads.Learnt, blanks-below t, blanks.Post)
 
 abbrev blanks-inv : blanks-lts.InvT-loop
-blanks-inv src at seen i₀ any₀ i any = SkippingBlanks src at seen i any
+blanks-inv src at seen bytes i₀ any₀ i any = SkippingBlanks bytes at seen i any
 
 abbrev blanks-left : blanks-lts.MeasureT-loop
-blanks-left src at seen i₀ any₀ i any = length src - i
+blanks-left src at seen bytes i₀ any₀ i any = length bytes - i
 
 abbrev comment-inv : comment-lts.InvT-loop
-comment-inv src at seen i₀ i = SkippingComment src at seen i
+comment-inv src at seen bytes i₀ i = SkippingComment bytes at seen i
 
 abbrev comment-left : comment-lts.MeasureT-loop
-comment-left src at seen i₀ i = length src - i
+comment-left src at seen bytes i₀ i = length bytes - i
 
 module _ (t : ℕ) where
   blanks-loop-holds : blanks-lts.Need-loop-holds (blanks-calls t) (blanks-at t) blanks.Post blanks-inv blanks-left
@@ -88,12 +90,13 @@ module _ (t : ℕ) where
   blanks-add-skip-comment c = omega arith
 
   blanks-skip-comment-requires : blanks-lts.Need-skip-comment-requires (blanks-calls t) (blanks-at t) blanks.Post blanks-inv blanks-left
-  blanks-skip-comment-requires c κs = omega arith
+  blanks-skip-comment-requires c κs =
+      let i = c .before .before in (omega arith, may-skip-on _ _ (i .before .before .before .pre .1) (i .loop-test .taken))
 
   blanks-returns : blanks-lts.Need-returns (blanks-calls t) (blanks-at t) blanks.Post blanks-inv blanks-left
   blanks-returns c =
-      let l = c .before .before .before .before in
-      blanks-hash (l .loop .inv) (c .skip-comment .result) (c .before .before .before .loop-test .taken) (c .before .if1 .taken) (c .skip-comment .ensures)
+      let i = c .before .before .before in
+      blanks-hash (i .before .loop .inv) (gapAt (c .skip-comment .result)) (i .loop-test .taken) (c .before .if1 .taken) (c .skip-comment .ensures)
 
   blanks-shared-slice-read-is-blank : blanks-lts.Need-shared-slice-read-is-blank (blanks-calls t) (blanks-at t) blanks.Post blanks-inv blanks-left
   blanks-shared-slice-read-is-blank c = omega arith
@@ -102,13 +105,13 @@ module _ (t : ℕ) where
   blanks-is-blank-requires c κs = tt
 
   blanks-gap-end-requires : blanks-lts.Need-gap-end-requires (blanks-calls t) (blanks-at t) blanks.Post blanks-inv blanks-left
-  blanks-gap-end-requires c κs = tt
+  blanks-gap-end-requires c κs = c .before .before .before .before .before .before .loop .inv .past
 
   blanks-returns-2 : blanks-lts.Need-returns-2 (blanks-calls t) (blanks-at t) blanks.Post blanks-inv blanks-left
   blanks-returns-2 c =
       let i = c .before .before .before .before .before .before in
       let b = c .before .before in
-      blanks-stop (i .before .loop .inv) (c .gap-end .result) (i .loop-test .taken)
+      blanks-stop (i .before .loop .inv) (gapAt (c .gap-end .result)) (i .loop-test .taken)
       (answered-no (not-true _ (c .before .if2 .taken)) (b .is-blank .ensures .1))
       (b .before .before .if1 .left)
       (c .gap-end .ensures)
@@ -125,10 +128,10 @@ module _ (t : ℕ) where
       blanks-more (i .before .loop .inv) (i .loop-test .taken) (c .before .is-blank .ensures .0 (not-false _ (c .if2 .left)))
 
   blanks-gap-end-requires-2 : blanks-lts.Need-gap-end-requires-2 (blanks-calls t) (blanks-at t) blanks.Post blanks-inv blanks-left
-  blanks-gap-end-requires-2 c κs = tt
+  blanks-gap-end-requires-2 c κs = c .before .loop .inv .past
 
   blanks-returns-3 : blanks-lts.Need-returns-3 (blanks-calls t) (blanks-at t) blanks.Post blanks-inv blanks-left
-  blanks-returns-3 c = blanks-end (c .before .before .loop .inv) (c .gap-end2 .result) (c .before .loop-test .left) (c .gap-end2 .ensures)
+  blanks-returns-3 c = blanks-end (c .before .before .loop .inv) (gapAt (c .gap-end2 .result)) (c .before .loop-test .left) (c .gap-end2 .ensures)
 
   comment-loop-holds : comment-lts.Need-loop-holds (comment-calls t) (comment-at t) comment.Post comment-inv comment-left
   comment-loop-holds c = comment-start _ _ _ (c .before .pre .1)
@@ -143,13 +146,14 @@ module _ (t : ℕ) where
   comment-add-skip-blanks c = omega arith
 
   comment-skip-blanks-requires : comment-lts.Need-skip-blanks-requires (comment-calls t) (comment-at t) comment.Post comment-inv comment-left
-  comment-skip-blanks-requires c κs = omega arith
+  comment-skip-blanks-requires c κs =
+      let i = c .before .before .before in (omega arith, may-skip-on _ _ (i .before .before .before .pre .1) (i .loop-test .taken))
 
   comment-returns : comment-lts.Need-returns (comment-calls t) (comment-at t) comment.Post comment-inv comment-left
   comment-returns c =
       let b = c .before .before in
       let i = b .before .before in
-      comment-end (i .before .loop .inv) (c .skip-blanks .result) (i .loop-test .taken) (b .is-line-end .ensures .0 (c .before .if1 .taken))
+      comment-end (i .before .loop .inv) (gapAt (c .skip-blanks .result)) (i .loop-test .taken) (b .is-line-end .ensures .0 (c .before .if1 .taken))
       (c .skip-blanks .ensures)
 
   comment-add-i : comment-lts.Need-add-i (comment-calls t) (comment-at t) comment.Post comment-inv comment-left
