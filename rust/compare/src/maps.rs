@@ -105,7 +105,7 @@ fn loosened(random: &mut Random, map: Map) -> Vec<Crossing> {
     rocks
 }
 
-/// Every so manieth diagonal, rising or falling, whole or with holes.
+/// Diagonals at equal steps, rising or falling, whole or with holes.
 fn diagonals(random: &mut Random, map: Map) -> Vec<Crossing> {
     let (step, at) = (random.between(2, 70), random.below(70));
     let rising = random.percent(50);

@@ -1,6 +1,7 @@
 //! The labelling program against the independent text: random and damaged files on its standard input, whole or in small pieces.
 use crate::mapfiles;
 use crate::random::Random;
+use crate::report::shortened;
 use independent::text::{label_text, LONGEST};
 use std::collections::BTreeMap;
 use std::io::{Read, Write};
@@ -137,9 +138,8 @@ fn one_run(
     }
     runs.differences += 1;
     if runs.differences <= TOLD {
-        let start = &input[..input.len().min(300)];
         println!("difference of the labelling program, {name}, in pieces: {pieces}");
-        println!("  input, {} bytes: {}", input.len(), start.escape_ascii());
+        println!("  input, {} bytes: {}", input.len(), shortened(input));
         println!("  independent: {}", expected.as_bytes().escape_ascii());
         println!("  program:     {}", seen.escape_ascii());
     }

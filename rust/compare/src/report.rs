@@ -1,5 +1,5 @@
 //! What is said of a difference: the case in full, so that it can be read, and how to make it again.
-use crate::case::{After, Case};
+use crate::case::{After, Call, Case};
 use independent::map::Crossing;
 use std::fmt::{Debug, Write};
 
@@ -41,12 +41,33 @@ fn buffer<T: PartialEq + Debug>(name: &str, want: &[T], got: &[T]) -> Option<Str
     let differ = |i: &usize| want.get(*i) != got.get(*i);
     let places: Vec<usize> = (0..want.len().max(got.len())).filter(differ).collect();
     let &first = places.first()?;
+    let shown = |b: &[T]| {
+        b.get(first)
+            .map_or("nothing".to_string(), |e| format!("{e:?}"))
+    };
     Some(format!(
-        "{name} {first}: independent {:?}, library {:?} ({} differ)",
-        want.get(first),
-        got.get(first),
+        "{name} {first}: independent {}, library {} ({} differ)",
+        shown(want),
+        shown(got),
         places.len()
     ))
+}
+
+/// So many slots of a list are told.
+const SLOTS: usize = 40;
+
+/// Bytes as they may be printed; of many, those at both ends.
+pub fn shortened(bytes: &[u8]) -> String {
+    if bytes.len() <= 600 {
+        return bytes.escape_ascii().to_string();
+    }
+    let (start, end) = (&bytes[..300], &bytes[bytes.len() - 200..]);
+    let between = bytes.len() - 500;
+    format!(
+        "{} ... {between} bytes ... {}",
+        start.escape_ascii(),
+        end.escape_ascii()
+    )
 }
 
 /// The case in words: its numbers, its list, its map as far as there is one, its file, and what its buffers hold.
@@ -80,16 +101,13 @@ pub fn describe(case: &Case) -> String {
         m.file.len(),
         m.out.len()
     );
-    let slots: Vec<String> = m
-        .list
-        .iter()
-        .take(60)
+    let slots = m.list.iter().take(SLOTS);
+    let slots: Vec<String> = slots
         .map(|m| format!("{}:({},{})", m.id, m.x, m.y))
         .collect();
     let _ = writeln!(text, "  first slots: {}", slots.join(" "));
-    if !m.file.is_empty() {
-        let start = &m.file[..m.file.len().min(300)];
-        let _ = writeln!(text, "  file: {}", start.escape_ascii());
+    if case.call == Call::Read {
+        let _ = writeln!(text, "  file: {}", shortened(&m.file));
     }
     text + &drawn(case)
 }

@@ -143,3 +143,35 @@ fn names() -> Vec<&'static str> {
     names.extend(edits::BYTE_EDITS.iter().map(|(name, _)| *name));
     names
 }
+
+#[cfg(test)]
+mod tests {
+    use super::*;
+    use crate::{library, making};
+
+    /// A tally of nothing misses everything, and a case takes away what it reached.
+    #[test]
+    fn what_was_not_reached_is_missing() {
+        let mut tally = Tally::new();
+        let ends: usize = CALLS.iter().map(|call| call.possible().len()).sum();
+        let all = tally.missing().len();
+        assert_eq!(all, ends + names().len());
+        let case = making::make(1, 1);
+        let (after, _) = library::run(&case);
+        tally.count(&case, &after);
+        assert!(tally.missing().len() < all);
+    }
+
+    /// A refusal that is not the call's is told.
+    #[test]
+    fn a_strange_refusal_is_told() {
+        let mut tally = Tally::new();
+        let case = making::make(1, 1);
+        let (mut after, _) = library::run(&case);
+        for strange in [18, 255] {
+            after.refusal = strange;
+            tally.count(&case, &after);
+        }
+        assert_eq!(tally.strange.len(), 2);
+    }
+}
