@@ -29,8 +29,8 @@ pub fn run(case: &Case) -> (After, Vec<&'static str>) {
 
 type Answer = (u8, Vec<(&'static str, usize)>);
 
-// SAFETY, of each call below: every pointer comes from a buffer of its own, stands before that buffer's length, is aligned and not null; no two buffers
-// overlap. The numbers may be anything: the calls promise an answer for every value.
+// SAFETY, of each call below: every pointer comes from a buffer of its own, stands before that buffer's length, is aligned and not null; no two
+// buffers overlap. The numbers may be anything: the calls promise an answer for every value.
 
 fn enter(case: &Case, lent: &mut Lendings) -> Answer {
     let [place, _] = case.places;

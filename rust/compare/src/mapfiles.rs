@@ -16,6 +16,8 @@ pub struct Parts {
     /// Whether the raster is plain, and where its last digit ends.
     pub plain: bool,
     pub last_digit: usize,
+    /// Whether a raw raster's pad bits are noise.
+    pub pads: bool,
     pub rocks: usize,
 }
 
@@ -130,10 +132,10 @@ fn plain_raster(random: &mut Random, marks: &[Vec<bool>], parts: &mut Parts) {
 
 /// Packed rows; now and then with pad bits set.
 fn raw_raster(random: &mut Random, marks: &[Vec<bool>], parts: &mut Parts) {
-    let pads_set = random.percent(40);
+    parts.pads = random.percent(40);
     for row in marks {
         for eight in row.chunks(8) {
-            let mut byte = if pads_set { random.byte() } else { 0 };
+            let mut byte = if parts.pads { random.byte() } else { 0 };
             for (i, &rock) in eight.iter().enumerate() {
                 let bit = 0x80 >> i;
                 byte = if rock { byte | bit } else { byte & !bit };
@@ -158,6 +160,7 @@ pub fn file(random: &mut Random) -> (Vec<&'static str>, Vec<u8>, usize) {
         "raw file"
     };
     let mut notes = vec![kind, size, shape];
+    notes.extend(parts.pads.then_some("pad bits of noise"));
     let edits = random.pick(&[0, 0, 1, 1, 1, 2]);
     for _ in 0..edits {
         let (name, edit) = random.pick(&crate::edits::EDITS);

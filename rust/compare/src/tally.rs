@@ -120,6 +120,7 @@ fn names() -> Vec<&'static str> {
         "near or at 4,096 markers",
         "plain file",
         "raw file",
+        "pad bits of noise",
         "answered: not assured",
         "answered: assured",
         "answered: there",

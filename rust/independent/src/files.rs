@@ -90,7 +90,8 @@ fn header(file: &[u8]) -> Option<(Map, usize)> {
     is_blank(*file.get(at)?).then_some((Map { width, height }, at + 1))
 }
 
-/// A plain raster as its digits in order, or the first fault met: a foreign byte before the last digit, the end before it, or more than blanks after it.
+/// A plain raster as its digits in order, or the first fault met: a foreign byte before the last digit, the end before it, or more than blanks
+/// after it.
 fn plain(map: Map, raster: &[u8]) -> Result<Vec<bool>, u8> {
     let mut digits = Vec::new();
     for &byte in raster {
