@@ -1,0 +1,137 @@
+//! A case: one call with all its numbers and all the memory lent to it; and what can be seen after the call.
+use independent::map::{Crossing, Map};
+use independent::markers::Marker;
+
+/// The eleven calls.
+#[derive(Clone, Copy, Debug, PartialEq, Eq)]
+pub enum Call {
+    Enter,
+    Clear,
+    Label,
+    Distances,
+    Measure,
+    Assured,
+    Hop,
+    Region,
+    Drive,
+    Read,
+    Write,
+}
+
+pub const CALLS: [Call; 11] = [
+    Call::Enter,
+    Call::Clear,
+    Call::Label,
+    Call::Distances,
+    Call::Measure,
+    Call::Assured,
+    Call::Hop,
+    Call::Region,
+    Call::Drive,
+    Call::Read,
+    Call::Write,
+];
+
+impl Call {
+    pub fn name(self) -> &'static str {
+        match self {
+            Call::Enter => "enter",
+            Call::Clear => "clear",
+            Call::Label => "label",
+            Call::Distances => "distances",
+            Call::Measure => "measure",
+            Call::Assured => "assured",
+            Call::Hop => "hop",
+            Call::Region => "region",
+            Call::Drive => "drive",
+            Call::Read => "read",
+            Call::Write => "write",
+        }
+    }
+
+    /// Success and the refusals that document 01's table makes possible for the call.
+    pub fn possible(self) -> &'static [u8] {
+        match self {
+            Call::Enter => &[0, 1, 3, 4, 5, 7],
+            Call::Clear => &[0, 1, 3, 6],
+            Call::Label => &[0, 1, 2, 3],
+            Call::Distances => &[0, 1, 2, 3, 4],
+            Call::Measure => &[0, 1, 2, 3],
+            Call::Assured => &[0, 1, 2, 3, 4, 8],
+            Call::Hop => &[0, 1, 2, 3, 4, 8, 11],
+            Call::Region => &[0, 1, 2, 3, 4, 8, 9],
+            Call::Drive => &[0, 1, 2, 3, 4, 8, 9, 10],
+            Call::Read => &[0, 1, 7, 12, 13, 14, 15],
+            Call::Write => &[0, 1, 3, 16, 17],
+        }
+    }
+
+    /// How many places the call is asked about: home and place, or s and d.
+    pub fn places(self) -> usize {
+        match self {
+            Call::Enter | Call::Distances => 1,
+            Call::Assured | Call::Hop | Call::Region | Call::Drive => 2,
+            _ => 0,
+        }
+    }
+
+    /// How many sheets are lent.
+    pub fn sheets(self) -> usize {
+        match self {
+            Call::Label | Call::Distances | Call::Assured | Call::Hop => 1,
+            Call::Region | Call::Drive => 2,
+            Call::Measure => 5,
+            _ => 0,
+        }
+    }
+}
+
+/// All memory that a call can be lent; what a call is not lent is empty and stays so.
+#[derive(Clone, Debug, Default, PartialEq, Eq)]
+pub struct Memory {
+    pub list: Vec<Marker>,
+    pub labels: Vec<u8>,
+    /// East, south, west, north.
+    pub sheets: [Vec<u8>; 4],
+    pub region: Vec<u8>,
+    pub route: Vec<u16>,
+    pub state: u32,
+    pub file: Vec<u8>,
+    pub out: Vec<u8>,
+}
+
+/// A call with its numbers and the memory before it.
+#[derive(Clone, Debug)]
+pub struct Case {
+    pub call: Call,
+    pub map: Map,
+    pub count: usize,
+    pub id: u16,
+    /// Home and place, or s and d; a call with one place takes the first.
+    pub places: [Crossing; 2],
+    pub before: Memory,
+    /// The names of what the case is made of, for the tally and for whoever reads a difference.
+    pub notes: Vec<&'static str>,
+}
+
+impl Case {
+    pub fn new(call: Call, map: Map) -> Case {
+        Case {
+            call,
+            map,
+            count: 0,
+            id: 0,
+            places: [Crossing::new(0, 0); 2],
+            before: Memory::default(),
+            notes: Vec::new(),
+        }
+    }
+}
+
+/// What can be seen after a call: the refusal number, each number of the answer with its name, and all memory.
+#[derive(Clone, Debug, PartialEq, Eq)]
+pub struct After {
+    pub refusal: u8,
+    pub answer: Vec<(&'static str, usize)>,
+    pub memory: Memory,
+}

@@ -1,0 +1,165 @@
+//! Random maps: sizes and shapes, each by its name.
+use crate::random::{Random, Weighted};
+use independent::map::{Crossing, Map, SIDE};
+
+/// A size: how it is made.
+type Size = Weighted<fn(&mut Random) -> Map>;
+
+pub const SIZES: [Size; 8] = [
+    ("1 by 1", 10, |_| Map::new(1, 1)),
+    ("up to 8 by 8", 680, |r| {
+        Map::new(r.between(1, 8), r.between(1, 8))
+    }),
+    ("up to 16 by 16", 170, |r| {
+        Map::new(r.between(1, 16), r.between(1, 16))
+    }),
+    ("1 by n", 40, |r| Map::new(1, r.between(1, SIDE))),
+    ("n by 1", 40, |r| Map::new(r.between(1, SIDE), 1)),
+    ("up to 64 by 64", 30, |r| {
+        Map::new(r.between(1, SIDE), r.between(1, SIDE))
+    }),
+    ("near 64 by 64", 15, |r| {
+        Map::new(r.between(SIDE - 2, SIDE), r.between(SIDE - 2, SIDE))
+    }),
+    ("64 by 64", 15, |_| Map::new(SIDE, SIDE)),
+];
+
+/// A shape: the rocks that it has on a map.
+type Shape = Weighted<fn(&mut Random, Map) -> Vec<Crossing>>;
+
+pub const SHAPES: [Shape; 14] = [
+    ("no rocks", 1, |_, _| Vec::new()),
+    ("few rocks", 4, |r, map| {
+        let rocks = r.between(1, 4);
+        (0..rocks).map(|_| any(r, map)).collect()
+    }),
+    ("sparse", 4, |r, map| by_chance(r, map, 1, 8)),
+    ("middling", 2, |r, map| by_chance(r, map, 8, 25)),
+    ("dense", 1, |r, map| by_chance(r, map, 25, 95)),
+    ("full", 1, |_, map| map.crossings().collect()),
+    ("lattice with gaps of one", 1, |r, map| lattice(r, map, 2)),
+    ("lattice with gaps of two", 2, |r, map| lattice(r, map, 3)),
+    ("loosened lattice with gaps of two", 4, loosened),
+    ("diagonals", 2, diagonals),
+    ("chequerboard", 1, |r, map| {
+        let odd = r.below(2);
+        keep(map, |c| (c.x + c.y) % 2 == odd)
+    }),
+    ("spiral", 1, spiral),
+    ("wall with a gap", 2, wall),
+    ("blocks", 4, blocks),
+];
+
+/// A size with its name.
+pub fn size(random: &mut Random) -> (&'static str, Map) {
+    let (name, make) = random.by_weight(&SIZES);
+    (name, make(random))
+}
+
+/// The rocks of a random shape, with its name; now and then with one rock more or less than the shape has.
+pub fn rocks(random: &mut Random, map: Map) -> (&'static str, Vec<Crossing>) {
+    let (name, make) = random.by_weight(&SHAPES);
+    let mut rocks = make(random, map);
+    if random.percent(15) && !rocks.is_empty() {
+        rocks.swap_remove(random.below(rocks.len()));
+    }
+    if random.percent(15) {
+        rocks.push(any(random, map));
+    }
+    rocks.sort();
+    rocks.dedup();
+    (name, rocks)
+}
+
+/// Any crossing of the map.
+pub fn any(random: &mut Random, map: Map) -> Crossing {
+    Crossing::new(random.below(map.width), random.below(map.height))
+}
+
+fn keep(map: Map, rock: impl Fn(Crossing) -> bool) -> Vec<Crossing> {
+    map.crossings().filter(|&c| rock(c)).collect()
+}
+
+fn by_chance(random: &mut Random, map: Map, low: usize, high: usize) -> Vec<Crossing> {
+    let chance = random.between(low, high);
+    map.crossings().filter(|_| random.percent(chance)).collect()
+}
+
+fn lattice(random: &mut Random, map: Map, step: usize) -> Vec<Crossing> {
+    let (a, b) = (random.below(step), random.below(step));
+    keep(map, |c| c.x % step == a && c.y % step == b)
+}
+
+/// Some rocks of the lattice are missing, some stand one crossing further east or north.
+fn loosened(random: &mut Random, map: Map) -> Vec<Crossing> {
+    let mut rocks = lattice(random, map, 3);
+    rocks.retain(|_| random.percent(80));
+    for rock in &mut rocks {
+        match random.below(12) {
+            0 => rock.x += 1,
+            1 => rock.y += 1,
+            _ => {}
+        }
+    }
+    rocks.retain(|&c| map.has(c));
+    rocks
+}
+
+/// Diagonals at equal steps, rising or falling, whole or with holes.
+fn diagonals(random: &mut Random, map: Map) -> Vec<Crossing> {
+    let (step, at) = (random.between(2, 70), random.below(70));
+    let rising = random.percent(50);
+    let mut rocks = keep(map, |c| {
+        let across = if rising { c.x + SIDE - c.y } else { c.x + c.y };
+        across % step == at % step
+    });
+    if random.percent(40) {
+        rocks.retain(|_| random.percent(85));
+    }
+    rocks
+}
+
+/// A wall that winds inwards, with an alley one or two crossings wide between its turns.
+fn spiral(random: &mut Random, map: Map) -> Vec<Crossing> {
+    let gap = random.between(2, 3) as isize;
+    let (mut west, mut south) = (0, 0);
+    let (mut east, mut north) = (map.width as isize - 1, map.height as isize - 1);
+    let mut rocks = Vec::new();
+    let mut from = west;
+    while west <= east && south <= north {
+        rocks.extend((from..=east).map(|x| (x, south)));
+        rocks.extend((south..=north).map(|y| (east, y)));
+        rocks.extend((west..=east).map(|x| (x, north)));
+        rocks.extend((south + gap..=north).map(|y| (west, y)));
+        from = west;
+        (west, south, east, north) = (west + gap, south + gap, east - gap, north - gap);
+    }
+    rocks
+        .into_iter()
+        .map(|(x, y)| Crossing::new(x as usize, y as usize))
+        .collect()
+}
+
+/// One whole row or column of rocks but for a gap, so that many pairs have no shortest drive.
+fn wall(random: &mut Random, map: Map) -> Vec<Crossing> {
+    let at = any(random, map);
+    let gap = random.between(1, 3);
+    if random.percent(50) {
+        keep(map, |c| c.y == at.y && !(at.x..at.x + gap).contains(&c.x))
+    } else {
+        keep(map, |c| c.x == at.x && !(at.y..at.y + gap).contains(&c.y))
+    }
+}
+
+/// Some full rectangles.
+fn blocks(random: &mut Random, map: Map) -> Vec<Crossing> {
+    let mut rocks = Vec::new();
+    for _ in 0..random.between(1, 4) {
+        let corner = any(random, map);
+        let (a, b) = (random.between(1, 5), random.between(1, 5));
+        rocks.extend(keep(map, |c| {
+            (corner.x..corner.x + a).contains(&c.x) && (corner.y..corner.y + b).contains(&c.y)
+        }));
+    }
+    rocks
+}

@@ -1,0 +1,187 @@
+//! The labelling program against the independent text: random and damaged files on its standard input, whole or in small pieces.
+use crate::mapfiles;
+use crate::random::Random;
+use crate::report::shortened;
+use independent::text::{label_text, LONGEST};
+use std::collections::BTreeMap;
+use std::io::{Read, Write};
+use std::path::Path;
+use std::process::{ChildStdin, Command, Stdio};
+use std::time::Duration;
+
+/// So many runs with random files, beside one for each named input.
+const RANDOM_RUNS: u64 = 500;
+
+/// So many differences are told in full.
+const TOLD: u64 = 3;
+
+#[derive(Default)]
+pub struct Runs {
+    pub runs: u64,
+    pub differences: u64,
+    pub faults: Vec<String>,
+}
+
+/// An input by its name.
+type Input = (&'static str, fn(&mut Random) -> Vec<u8>);
+
+const INPUTS: [Input; 14] = [
+    ("empty input", |_| Vec::new()),
+    ("the example", |_| b"P1\n4 3\n0010\n0100\n0000\n".to_vec()),
+    ("65,536 bytes, a map", |_| padded(LONGEST)),
+    ("65,535 bytes, a map", |_| padded(LONGEST - 1)),
+    ("65,537 bytes, a map", |_| padded(LONGEST + 1)),
+    ("65,536 bytes, a fault at the last", |_| faulty(LONGEST)),
+    ("65,537 bytes, a fault at the last", |_| faulty(LONGEST + 1)),
+    ("65,536 bytes of noise", |r| r.bytes(LONGEST)),
+    ("65,537 bytes of noise", |r| r.bytes(LONGEST + 1)),
+    ("300,000 bytes, a map", |_| padded(300_000)),
+    ("65,536 bytes, a long comment", |_| {
+        let comment = "c".repeat(LONGEST - 13);
+        format!("P1 #{comment}\n2 1\n01").into_bytes()
+    }),
+    ("many comments", |_| {
+        let comments = "#\n".repeat(32_000);
+        format!("P1\n{comments}2 1\n01").into_bytes()
+    }),
+    ("64 by 64, full", |_| {
+        let row = format!("{}\n", "1".repeat(64));
+        format!("P1\n64 64\n{}", row.repeat(64)).into_bytes()
+    }),
+    ("64 by 64, packed", |r| {
+        let sparse: Vec<u8> = (0..512).map(|_| r.byte() & r.byte() & r.byte()).collect();
+        [&b"P4\n64 64\n"[..], &sparse].concat()
+    }),
+];
+
+/// A plain map with blanks after it, so many bytes long.
+fn padded(length: usize) -> Vec<u8> {
+    let mut bytes = b"P1\n3 2\n101\n010\n".to_vec();
+    bytes.resize(length, b' ');
+    bytes
+}
+
+/// The same with a last byte that may not stand there.
+fn faulty(length: usize) -> Vec<u8> {
+    let mut bytes = padded(length - 1);
+    bytes.push(b'x');
+    bytes
+}
+
+/// Runs the program over all inputs and compares its whole output.
+pub fn compare(path: &Path, seed: u64) -> Runs {
+    println!(
+        "the labelling program, again by: compare 0 {seed} --label {}",
+        path.display()
+    );
+    let mut runs = Runs::default();
+    let mut kinds = BTreeMap::new();
+    for (index, (name, make)) in INPUTS.iter().enumerate() {
+        for pieces in [false, true] {
+            let mut random = Random::of_case(!seed, index as u64);
+            let input = make(&mut random);
+            one_run(path, name, &input, pieces, &mut runs, &mut kinds);
+        }
+    }
+    for index in 0..RANDOM_RUNS {
+        let mut random = Random::of_case(seed, u64::MAX - index);
+        let (notes, input, _) = mapfiles::file(&mut random);
+        let pieces = random.percent(30);
+        one_run(
+            path,
+            &notes.join("; "),
+            &input,
+            pieces,
+            &mut runs,
+            &mut kinds,
+        );
+    }
+    println!("the labelling program's outputs, by kind: {kinds:?}");
+    for kind in [
+        "labels",
+        "refused 1",
+        "refused 12",
+        "refused 13",
+        "refused 14",
+        "refused 15",
+        "refused long",
+    ] {
+        if !kinds.contains_key(kind) {
+            runs.faults
+                .push(format!("the labelling program never answered: {kind}"));
+        }
+    }
+    runs
+}
+
+fn one_run(
+    path: &Path,
+    name: &str,
+    input: &[u8],
+    pieces: bool,
+    runs: &mut Runs,
+    kinds: &mut BTreeMap<String, u64>,
+) {
+    let expected = label_text(input);
+    runs.runs += 1;
+    let kind = match expected.strip_suffix('\n') {
+        Some(line) if line.starts_with("refused") => line.to_string(),
+        _ => "labels".to_string(),
+    };
+    *kinds.entry(kind).or_insert(0) += 1;
+    let seen = match output(path, input, pieces) {
+        Ok(seen) => seen,
+        Err(message) => format!("no output: {message}").into_bytes(),
+    };
+    if seen == expected.as_bytes() {
+        return;
+    }
+    runs.differences += 1;
+    if runs.differences <= TOLD {
+        println!("difference of the labelling program, {name}, in pieces: {pieces}");
+        println!("  input, {} bytes: {}", input.len(), shortened(input));
+        println!("  independent: {}", expected.as_bytes().escape_ascii());
+        println!("  program:     {}", seen.escape_ascii());
+    }
+}
+
+/// The program's whole output for an input. An end by a signal, or anything on standard error, is no output.
+fn output(path: &Path, input: &[u8], pieces: bool) -> Result<Vec<u8>, String> {
+    let mut child = Command::new(path)
+        .stdin(Stdio::piped())
+        .stdout(Stdio::piped())
+        .stderr(Stdio::piped())
+        .spawn()
+        .map_err(|e| format!("{}: {e}", path.display()))?;
+    let stdin = child.stdin.take().ok_or("no standard input")?;
+    let mut stdout = child.stdout.take().ok_or("no standard output")?;
+    let mut seen = Vec::new();
+    std::thread::scope(|scope| {
+        scope.spawn(|| feed(stdin, input, pieces));
+        stdout.read_to_end(&mut seen).map_err(|e| e.to_string())
+    })?;
+    let end = child.wait_with_output().map_err(|e| e.to_string())?;
+    match (end.status.code(), end.stderr.is_empty()) {
+        (None, _) => Err(format!("{}", end.status)),
+        (_, false) => Err(format!("on standard error: {}", end.stderr.escape_ascii())),
+        _ => Ok(seen),
+    }
+}
+
+/// Writes the input at once, or in some hundred pieces with a pause after each, so that the program reads less than it asks for. The program may stop
+/// reading before the end; then the rest is not wanted.
+fn feed(mut stdin: ChildStdin, input: &[u8], pieces: bool) {
+    let size = if pieces {
+        input.len() / 100 + 1
+    } else {
+        input.len().max(1)
+    };
+    for piece in input.chunks(size) {
+        if stdin.write_all(piece).and_then(|()| stdin.flush()).is_err() {
+            return;
+        }
+        if pieces {
+            std::thread::sleep(Duration::from_micros(150));
+        }
+    }
+}

@@ -1,0 +1,178 @@
+//! What was reached: how often each call ended with each number, and how often each thing that cases are made of was used.
+use crate::case::{After, Call, Case, CALLS};
+use crate::{edits, harms, lists, making, mapfiles, maps, places};
+use std::collections::BTreeMap;
+
+/// Refusal numbers go to this.
+const LAST: usize = 17;
+
+/// A run with fewer cases is not held to reach everything.
+pub const WHOLE: u64 = 100_000;
+
+pub struct Tally {
+    ends: BTreeMap<&'static str, [u64; LAST + 1]>,
+    notes: BTreeMap<&'static str, u64>,
+    pub cases: u64,
+    pub successes: u64,
+    pub strange: Vec<String>,
+}
+
+impl Tally {
+    pub fn new() -> Tally {
+        let ends = CALLS.map(|call| (call.name(), [0; LAST + 1]));
+        Tally {
+            ends: BTreeMap::from(ends),
+            notes: names().into_iter().map(|name| (name, 0)).collect(),
+            cases: 0,
+            successes: 0,
+            strange: Vec::new(),
+        }
+    }
+
+    /// Counts a case by what the library answered.
+    pub fn count(&mut self, case: &Case, after: &After) {
+        self.cases += 1;
+        self.successes += u64::from(after.refusal == 0);
+        if !case.call.possible().contains(&after.refusal) {
+            let name = case.call.name();
+            let line = format!("{name} ended with {}, which is not its", after.refusal);
+            self.strange.push(line);
+            return;
+        }
+        let ends = self.ends.get_mut(case.call.name()).expect("every call");
+        ends[usize::from(after.refusal)] += 1;
+        let mut notes = case.notes.clone();
+        notes.extend(kinds(case, after));
+        notes.extend(case.before.list.is_empty().then_some("a list of no slots"));
+        notes.sort_unstable();
+        notes.dedup();
+        for note in notes {
+            *self.notes.entry(note).or_insert(0) += 1;
+        }
+    }
+
+    /// What is possible and was never reached.
+    pub fn missing(&self) -> Vec<String> {
+        let mut missing = Vec::new();
+        for call in CALLS {
+            for &number in call.possible() {
+                if self.ends[call.name()][usize::from(number)] == 0 {
+                    missing.push(format!("{} never ended with {number}", call.name()));
+                }
+            }
+        }
+        let unused = self.notes.iter().filter(|(_, &count)| count == 0);
+        missing.extend(unused.map(|(name, _)| format!("never: {name}")));
+        missing
+    }
+
+    /// The table, call by refusal number; a dot where the number is not the call's.
+    pub fn print(&self) {
+        print!("{:<10}", "");
+        for number in 0..=LAST {
+            print!("{number:>7}");
+        }
+        println!();
+        for call in CALLS {
+            print!("{:<10}", call.name());
+            for number in 0..=LAST {
+                if call.possible().contains(&(number as u8)) {
+                    print!("{:>7}", self.ends[call.name()][number]);
+                } else {
+                    print!("{:>7}", ".");
+                }
+            }
+            println!();
+        }
+    }
+
+    /// Everything that cases are made of, with how many cases of each.
+    pub fn print_notes(&self) {
+        println!("made of, with how many cases of each:");
+        for (name, count) in &self.notes {
+            println!("{count:>8}  {name}");
+        }
+    }
+}
+
+/// Kinds of success that a refusal number does not tell apart.
+fn kinds(case: &Case, after: &After) -> Option<&'static str> {
+    let first = after.answer.first().map_or(0, |(_, value)| *value);
+    match (case.call, after.refusal, first) {
+        (Call::Assured, 0, 0) => Some("answered: not assured"),
+        (Call::Assured, 0, _) => Some("answered: assured"),
+        (Call::Hop, 0, 0) => Some("answered: there"),
+        (Call::Hop, 0, 1) => Some("answered: one hop"),
+        (Call::Hop, 0, _) => Some("answered: two hops"),
+        (Call::Drive, 0, 1) => Some("answered: a drive of no hops"),
+        (Call::Drive, 0, 61..) => Some("answered: a drive of 60 hops or more"),
+        (Call::Enter, 7, _) if case.count < case.before.list.len() => {
+            Some("answered: no slot by the limit, though the list has one")
+        }
+        _ => None,
+    }
+}
+
+/// Everything that cases are made of.
+fn names() -> Vec<&'static str> {
+    let mut names = vec![
+        "several markers on one crossing",
+        "near or at 4,096 markers",
+        "plain file",
+        "raw file",
+        "pad bits of noise",
+        "answered: not assured",
+        "answered: assured",
+        "answered: there",
+        "answered: one hop",
+        "answered: two hops",
+        "answered: a drive of no hops",
+        "answered: a drive of 60 hops or more",
+        "answered: no slot by the limit, though the list has one",
+        "a list of no slots",
+    ];
+    names.extend(maps::SIZES.iter().map(|(name, _, _)| *name));
+    names.extend(maps::SHAPES.iter().map(|(name, _, _)| *name));
+    names.extend(places::PLACES.iter().map(|(name, _, _)| *name));
+    names.extend(making::LENGTHS.iter().map(|(name, _, _)| *name));
+    names.extend(lists::LIST_HARMS.iter().map(|(name, _)| *name));
+    names.extend(harms::SIZE_HARMS.iter().map(|(name, _)| *name));
+    names.extend(harms::SHEET_HARMS.iter().map(|(name, _)| *name));
+    names.extend(harms::PLACE_HARMS.iter().map(|(name, _)| *name));
+    names.extend(mapfiles::NOISES.iter().map(|(name, _)| *name));
+    names.extend(edits::EDITS.iter().map(|(name, _)| *name));
+    names.extend(edits::BYTE_EDITS.iter().map(|(name, _)| *name));
+    names
+}
+
+#[cfg(test)]
+mod tests {
+    use super::*;
+    use crate::{library, making};
+
+    /// A tally of nothing misses everything, and a case takes away what it reached.
+    #[test]
+    fn what_was_not_reached_is_missing() {
+        let mut tally = Tally::new();
+        let ends: usize = CALLS.iter().map(|call| call.possible().len()).sum();
+        let all = tally.missing().len();
+        assert_eq!(all, ends + names().len());
+        let case = making::make(1, 1);
+        let (after, _) = library::run(&case);
+        tally.count(&case, &after);
+        assert!(tally.missing().len() < all);
+    }
+
+    /// A refusal that is not the call's is told.
+    #[test]
+    fn a_strange_refusal_is_told() {
+        let mut tally = Tally::new();
+        let case = making::make(1, 1);
+        let (mut after, _) = library::run(&case);
+        for strange in [18, 255] {
+            after.refusal = strange;
+            tally.count(&case, &after);
+        }
+        assert_eq!(tally.strange.len(), 2);
+    }
+}

@@ -1,0 +1,73 @@
+//! "Every asking labels afresh from the list": what the askings share.
+use crate::labels::{closed, rocks, OPEN, ROCK, SHUT};
+use crate::map::{Crossing, Crossings, Map};
+use crate::markers::{bad_list, Marker};
+use crate::refusals::first_that_applies;
+
+/// What an asking is lent and told apart from its own buffers: the list, its count, the map, the label sheet, and the places asked about.
+#[derive(Clone, Copy, Debug)]
+pub struct Asking<'a> {
+    pub list: &'a [Marker],
+    pub count: usize,
+    pub map: Map,
+    pub labels: &'a [u8],
+    pub places: &'a [Crossing],
+}
+
+impl Asking<'_> {
+    /// Refusals 1 to 4, which change no lent byte. `others` are the sheets lent beside the label sheet.
+    pub fn refusal(&self, others: &[&[u8]]) -> u8 {
+        first_that_applies(&[
+            (1, &|| self.map.bad_size()),
+            (2, &|| {
+                self.map.bad_sheet(self.labels) || others.iter().any(|s| self.map.bad_sheet(s))
+            }),
+            (3, &|| bad_list(self.map, self.list, self.count)),
+            (4, &|| self.places.iter().any(|&p| !self.map.has(p))),
+        ])
+    }
+
+    /// The labelling, once refusals 1 to 4 do not apply.
+    pub fn labelled(&self) -> Labelled {
+        Labelled::new(self.map, &self.list[..self.count])
+    }
+}
+
+/// A map with its rocks and closed crossings.
+#[derive(Clone, Debug)]
+pub struct Labelled {
+    pub map: Map,
+    pub rocks: Crossings,
+    pub closed: Crossings,
+}
+
+impl Labelled {
+    pub fn new(map: Map, used: &[Marker]) -> Labelled {
+        let rocks = rocks(used);
+        let closed = closed(map, &rocks);
+        Labelled { map, rocks, closed }
+    }
+
+    /// A crossing of the map that is not closed.
+    pub fn open(&self, c: Crossing) -> bool {
+        self.map.has(c) && !self.closed.contains(&c)
+    }
+
+    /// Refusal 8: an end is closed.
+    pub fn end_closed(&self, ends: &[Crossing]) -> bool {
+        ends.iter().any(|&end| !self.open(end))
+    }
+
+    /// The label sheet.
+    pub fn sheet(&self) -> Vec<u8> {
+        self.map.sheet(|c| {
+            if self.rocks.contains(&c) {
+                ROCK
+            } else if self.closed.contains(&c) {
+                SHUT
+            } else {
+                OPEN
+            }
+        })
+    }
+}

@@ -1,0 +1,126 @@
+//! "Clear distances and assurance", without the hops.
+use crate::asking::{Asking, Labelled};
+use crate::map::{Crossing, Way, WAYS};
+use crate::refusals::DONE;
+
+/// The mark for "there is none".
+pub const NONE: u8 = 255;
+
+/// What asking for one crossing's distances leaves: east, south, west, north.
+#[derive(Clone, Debug, PartialEq, Eq)]
+pub struct Four {
+    pub refusal: u8,
+    pub four: [u8; 4],
+    pub labels: Vec<u8>,
+}
+
+/// What asking for the whole map's distances leaves.
+#[derive(Clone, Debug, PartialEq, Eq)]
+pub struct Measured {
+    pub refusal: u8,
+    pub labels: Vec<u8>,
+    pub sheets: [Vec<u8>; 4],
+}
+
+/// What asking for assurance leaves.
+#[derive(Clone, Debug, PartialEq, Eq)]
+pub struct Assurance {
+    pub refusal: u8,
+    pub assured: bool,
+    pub labels: Vec<u8>,
+}
+
+/// The hops along the row or column to the nearest closed crossing that way, looked for one hop after another; 0 at a closed crossing.
+pub fn clear(on: &Labelled, c: Crossing, way: Way) -> u8 {
+    let mut hops = 0;
+    while let Some(there) = on.map.onward(c, way, usize::from(hops)) {
+        if !on.open(there) {
+            return hops;
+        }
+        hops += 1;
+    }
+    NONE
+}
+
+/// Whether home's distance that way is enough for an offset.
+fn enough(on: &Labelled, home: Crossing, way: Way, offset: usize) -> bool {
+    let distance = clear(on, home, way);
+    offset == 0 || distance == NONE || offset < usize::from(distance)
+}
+
+/// Whether home is assured for a place.
+pub fn is_assured(on: &Labelled, home: Crossing, place: Crossing) -> bool {
+    let east_west = if place.x > home.x {
+        Way::East
+    } else {
+        Way::West
+    };
+    let north_south = if place.y > home.y {
+        Way::North
+    } else {
+        Way::South
+    };
+    on.open(home)
+        && on.open(place)
+        && enough(on, home, east_west, place.x.abs_diff(home.x))
+        && enough(on, home, north_south, place.y.abs_diff(home.y))
+}
+
+/// The four distances of the one place asked about.
+pub fn distances(asking: Asking) -> Four {
+    let refusal = asking.refusal(&[]);
+    if refusal != DONE {
+        return Four {
+            refusal,
+            four: [0; 4],
+            labels: asking.labels.to_vec(),
+        };
+    }
+    let on = asking.labelled();
+    Four {
+        refusal,
+        four: WAYS.map(|way| clear(&on, asking.places[0], way)),
+        labels: on.sheet(),
+    }
+}
+
+/// The four distances of every crossing, one sheet a way.
+pub fn measure(asking: Asking, sheets: [&[u8]; 4]) -> Measured {
+    let refusal = asking.refusal(&sheets);
+    if refusal != DONE {
+        return Measured {
+            refusal,
+            labels: asking.labels.to_vec(),
+            sheets: sheets.map(|s| s.to_vec()),
+        };
+    }
+    let on = asking.labelled();
+    Measured {
+        refusal,
+        labels: on.sheet(),
+        sheets: WAYS.map(|way| on.map.sheet(|c| clear(&on, c, way))),
+    }
+}
+
+/// Whether home, the first place asked about, is assured for the second.
+pub fn assured(asking: Asking) -> Assurance {
+    let refusal = asking.refusal(&[]);
+    if refusal != DONE {
+        return Assurance {
+            refusal,
+            assured: false,
+            labels: asking.labels.to_vec(),
+        };
+    }
+    let on = asking.labelled();
+    let refusal = if on.end_closed(asking.places) {
+        8
+    } else {
+        DONE
+    };
+    Assurance {
+        refusal,
+        assured: refusal == DONE && is_assured(&on, asking.places[0], asking.places[1]),
+        labels: on.sheet(),
+    }
+}

@@ -1,0 +1,88 @@
+//! "Labels": rocks, shut and open crossings, groups.
+use crate::asking::Labelled;
+use crate::map::{Crossings, Map};
+use crate::markers::{bad_list, Marker};
+use crate::refusals::{first_that_applies, DONE};
+
+/// A label sheet's bytes.
+pub const OPEN: u8 = 0;
+pub const ROCK: u8 = 1;
+pub const SHUT: u8 = 2;
+
+/// What labelling leaves.
+#[derive(Clone, Debug, PartialEq, Eq)]
+pub struct Labelling {
+    pub refusal: u8,
+    pub rocks: usize,
+    pub shut: usize,
+    pub groups: usize,
+    pub labels: Vec<u8>,
+}
+
+/// The crossings on which at least one marker stands.
+pub fn rocks(used: &[Marker]) -> Crossings {
+    used.iter().map(|m| m.crossing()).collect()
+}
+
+/// The smallest set that holds all rocks and every crossing with two or more closed neighbours: from the rocks, whole-map sweeps until one adds
+/// nothing.
+pub fn closed(map: Map, rocks: &Crossings) -> Crossings {
+    let mut closed = rocks.clone();
+    loop {
+        let more: Vec<_> = map
+            .crossings()
+            .filter(|c| !closed.contains(c))
+            .filter(|&c| map.neighbours(c).filter(|n| closed.contains(n)).count() >= 2)
+            .collect();
+        if more.is_empty() {
+            return closed;
+        }
+        closed.extend(more);
+    }
+}
+
+/// The groups: whole sets of closed crossings connected through neighbours, each found by flooding from one of its crossings.
+pub fn groups(map: Map, closed: &Crossings) -> Vec<Crossings> {
+    let mut left = closed.clone();
+    let mut groups = Vec::new();
+    while let Some(start) = left.pop_first() {
+        let mut group = Crossings::from([start]);
+        let mut edge = vec![start];
+        while let Some(c) = edge.pop() {
+            for n in map.neighbours(c) {
+                if left.remove(&n) {
+                    group.insert(n);
+                    edge.push(n);
+                }
+            }
+        }
+        groups.push(group);
+    }
+    groups
+}
+
+/// Labels the map.
+pub fn label(list: &[Marker], count: usize, map: Map, labels: &[u8]) -> Labelling {
+    let refusal = first_that_applies(&[
+        (1, &|| map.bad_size()),
+        (2, &|| map.bad_sheet(labels)),
+        (3, &|| bad_list(map, list, count)),
+    ]);
+    if refusal != DONE {
+        return Labelling {
+            refusal,
+            rocks: 0,
+            shut: 0,
+            groups: 0,
+            labels: labels.to_vec(),
+        };
+    }
+    let labelled = Labelled::new(map, &list[..count]);
+    Labelling {
+        refusal,
+        rocks: labelled.rocks.len(),
+        shut: labelled.closed.len() - labelled.rocks.len(),
+        groups: groups(map, &labelled.closed).len(),
+        labels: labelled.sheet(),
+    }
+}
