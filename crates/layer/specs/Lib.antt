@@ -14,9 +14,11 @@ pub mod RouteCalls
 pub mod Agree
 pub mod Unread
 pub mod Demands
+pub mod Sharing
+pub mod RoundLaws
+pub mod RoundTrip
 pub mod Prepared
 pub mod Judging
-pub mod Sharing
 pub mod Files
 pub mod Writing
 pub mod Reading

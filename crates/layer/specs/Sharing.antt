@@ -2,7 +2,7 @@
 -- and a marker on a marked crossing makes none. So a stamped sheet has as many marks as there are markers exactly where no two share a crossing.
 use mathlib.Core.Path.{_≡_, refl, sym, ap, subst, _∙_}
 use mathlib.Core.List.{List, [], _∷_}
-use mathlib.Core.Logic.{_⊎_, inl, inr}
+use mathlib.Core.Logic.{_↔_, _⊎_, inl, inr}
 use Prim.Native.Nat.{ℕ, zero, suc, _+_, _*_, _<_, _≤_}
 use native.Mathlib.Omega.{arith}
 use native.Mathlib.Numerals.{add-one}
@@ -71,6 +71,16 @@ module _ (w h : ℕ) (list : List Marker) where
   drawn-is (suc k) on =
       subst (λ (n : ℕ). Stamping w h x-of y-of n (drawn (suc k))) (add-one k)
       (stamping-more {w = w} {h = h} {k = k} {x = x-of} {y = y-of} (on k (omega arith)) (drawn-is k (λ j l. on j (omega arith))))
+
+  -- Its marks are the crossings on which they stand.
+  drawn-stands : (k x y : ℕ) → OnMap k → Stands list k x y → 0 < at (drawn k) w x y
+  unfolding x-of y-of
+  drawn-stands k x y on t = rw (← t .x-is, ← t .y-is) (drawn-is k on .complete (t .place) (t .below))
+
+  stands-drawn : (k x y : ℕ) → OnMap k → On w h x y → 0 < at (drawn k) w x y → Stands list k x y
+  unfolding x-of y-of
+  stands-drawn k x y on o m =
+      let p = drawn-is k on .sound x y o m in record { place = p .place; below = p .below; x-is = p .x-is; y-is = p .y-is }
 
   -- No two of the first k markers stand on one crossing, and there are k marks; or two do, and there are fewer.
   abbrev Distinct : ℕ → Type 0
@@ -149,7 +159,6 @@ module _ (w h : ℕ) (list : List Marker) where
   module _ (count : ℕ) (sheet : List ℕ) (formed : WellFormed w h list count) (stamped : StampedWith w h list count sheet) where
     -- The stamped sheet has the marks of the markers in use.
     sheet-marks : marks sheet ≡ marks (drawn count)
-    unfolding x-of y-of
     sheet-marks = omega (arith, marks-mono sheet (drawn count) long there, marks-mono (drawn count) sheet (sym long) back)
       where
         s : Stamping w h x-of y-of count (drawn count)
@@ -158,21 +167,17 @@ module _ (w h : ℕ) (list : List Marker) where
         long : length sheet ≡ length (drawn count)
         long = stamped .size ∙ sym (s .size)
 
-        stood : (x y : ℕ) → Stands list count x y → 0 < at (drawn count) w x y
-        stood x y t = rw (← t .x-is, ← t .y-is) (s .complete (t .place) (t .below))
-
         there-at : (i : ℕ) → Crossing w h i → 0 < getD sheet i 0 → 0 < getD (drawn count) i 0
         there-at i c m =
             let r = stamped .rocks .sound (c .x) (c .y) (record { on = c .on; mark = rw (c .is) m }) in
-            rw (c .is) at (stood (c .x) (c .y) (rock-stands list count (c .x) (c .y) (r .stone)))
+            rw (c .is) at (drawn-stands count (c .x) (c .y) (formed .on) (rock-stands list count (c .x) (c .y) (r .stone)))
 
         there : Among sheet (drawn count)
         there i l m = there-at i (crossing w h i (omega (arith, stamped .size))) m
 
         back-at : (i : ℕ) → Crossing w h i → 0 < getD (drawn count) i 0 → 0 < getD sheet i 0
         back-at i c m =
-            let p = s .sound (c .x) (c .y) (c .on) (rw (c .is) m) in
-            let r = stands-rock list count (c .x) (c .y) (formed .lent) (record { place = p .place; below = p .below; x-is = p .x-is; y-is = p .y-is }) in
+            let r = stands-rock list count (c .x) (c .y) (formed .lent) (stands-drawn count (c .x) (c .y) (formed .on) (c .on) (rw (c .is) m)) in
             rw (c .is) at (stamped .rocks .complete (c .x) (c .y) (record { on = c .on; stone = r }) .mark)
 
         back : Among (drawn count) sheet
@@ -199,3 +204,35 @@ module _ (w h : ℕ) (list : List Marker) where
         go : Told count (marks (drawn count)) → Shared list count
         go (inl t) = absurd (e (sheet-marks ∙ t .0))
         go (inr t) = t .1
+
+-- Lists whose markers stand on the same crossings of the map, each list with no two markers on one of them, have as many markers: each has as many as
+-- there are marks, and the marks are the same.
+module _ {w h : ℕ} where
+  drawn-among : (list other : List Marker) (count more : ℕ) → OnMap w h list count → OnMap w h other more
+      → ((x y : ℕ) → Stands list count x y → Stands other more x y) → Among (drawn w h list count) (drawn w h other more)
+  drawn-among list other count more on on′ f i l = at-crossing (crossing w h i (omega (arith, drawn-is w h list count on .size)))
+    where
+      at-crossing : Crossing w h i → 0 < getD (drawn w h list count) i 0 → 0 < getD (drawn w h other more) i 0
+      at-crossing c m =
+          rw (c .is) at
+          (drawn-stands w h other more (c .x) (c .y) on′ (f (c .x) (c .y) (stands-drawn w h list count (c .x) (c .y) on (c .on) (rw (c .is) m))))
+
+  drawn-apart : (list : List Marker) (count : ℕ) → OnMap w h list count → ¬ Shared list count → marks (drawn w h list count) ≡ count
+  drawn-apart list count on n = go (told w h list count on)
+    where
+      go : Told w h list count (marks (drawn w h list count)) → marks (drawn w h list count) ≡ count
+      go (inl t) = t .0
+      go (inr t) = absurd (n (t .1))
+
+  pub apart-count : {list other : List Marker} {count more : ℕ} → OnMap w h list count → OnMap w h other more
+      → ((x y : ℕ) → Stands list count x y ↔ Stands other more x y) → ¬ Shared list count → ¬ Shared other more → count ≡ more
+  apart-count {list} {other} {count} {more} on on′ same n n′ = omega (arith, there, back, drawn-apart list count on n, drawn-apart other more on′ n′)
+    where
+      long : length (drawn w h list count) ≡ length (drawn w h other more)
+      long = drawn-is w h list count on .size ∙ sym (drawn-is w h other more on′ .size)
+
+      there : marks (drawn w h list count) ≤ marks (drawn w h other more)
+      there = marks-mono (drawn w h list count) (drawn w h other more) long (drawn-among list other count more on on′ (λ x y. same x y .0))
+
+      back : marks (drawn w h other more) ≤ marks (drawn w h list count)
+      back = marks-mono (drawn w h other more) (drawn w h list count) (sym long) (drawn-among other list more count on′ on (λ x y. same x y .1))

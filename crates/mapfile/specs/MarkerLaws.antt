@@ -86,6 +86,50 @@ module _ (w h : ℕ) where
         is = m .is ∙ ap₂ (markerAt w h) (omega arith) (omega arith);
       }
 
+  -- "in raster order": of two markers the later one is that of a later bit.
+  pub record OfBits (bits : List ℕ) (n k i j : ℕ) : Type 0 where
+    pub place : ℕ
+    pub later : ℕ
+    pub order : place < later
+    pub below : later < length bits
+    pub is : getD (markersFrom w h n k bits) i blank ≡ markerAt w h (n + i) (k + place)
+    pub later-is : getD (markersFrom w h n k bits) j blank ≡ markerAt w h (n + j) (k + later)
+
+  pub markers-order : (n k : ℕ) (bits : List ℕ) (i j : ℕ) → i < j → j < ones bits → OfBits bits n k i j
+  unfolding markersFrom ones
+  markers-order n k [] i j o l = absurd (omega arith)
+  markers-order n k (zero ∷ bits) i j o l =
+      let m = markers-order n (k + 1) bits i j o l in
+      record {
+        place = suc (m .place);
+        later = suc (m .later);
+        order = omega (arith, m .order);
+        below = omega (arith, m .below);
+        is = m .is ∙ ap (markerAt w h (n + i)) (omega arith);
+        later-is = m .later-is ∙ ap (markerAt w h (n + j)) (omega arith);
+      }
+  markers-order n k (suc b ∷ bits) i zero o l = absurd (omega arith)
+  markers-order n k (suc b ∷ bits) zero (suc j) o l =
+      let m = marker-of (n + 1) (k + 1) bits j (omega arith) in
+      record {
+        place = 0;
+        later = suc (m .place);
+        order = omega arith;
+        below = omega (arith, m .below);
+        is = ap₂ (markerAt w h) (omega arith) (omega arith);
+        later-is = m .is ∙ ap₂ (markerAt w h) (omega arith) (omega arith);
+      }
+  markers-order n k (suc b ∷ bits) (suc i) (suc j) o l =
+      let m = markers-order (n + 1) (k + 1) bits i j (omega arith) (omega arith) in
+      record {
+        place = suc (m .place);
+        later = suc (m .later);
+        order = omega (arith, m .order);
+        below = omega (arith, m .below);
+        is = m .is ∙ ap₂ (markerAt w h) (omega arith) (omega arith);
+        later-is = m .later-is ∙ ap₂ (markerAt w h) (omega arith) (omega arith);
+      }
+
   -- The place-th bit has a marker.
   pub record HasMarker (bits : List ℕ) (n k place : ℕ) : Type 0 where
     pub slot : ℕ

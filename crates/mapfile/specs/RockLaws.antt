@@ -14,7 +14,7 @@ use Rattle.field.specs.Labels.{Rock, blank}
 use Rattle.field.specs.Workings.Sheet.{number-lt, Crossing, crossing}
 use Rattle.mapfile.specs.Raster.{packedBit, RawRaster, Digits, ended, skip, zero-digit, one-digit}
 use Rattle.mapfile.specs.File.{Format, plain, raw, Raster, MapFile, rasterPlace, FileRock, markersOf}
-use Rattle.mapfile.specs.MarkerLaws.{ones, ones-le, markerAt, markers-length, marker-of, of-marker}
+use Rattle.mapfile.specs.MarkerLaws.{ones, ones-le, markerAt, markers-length, marker-of, markers-order, of-marker}
 
 -- Every number of the list is 0 or 1.
 abbrev pub AreBits : List ℕ → Type 0
@@ -106,6 +106,25 @@ module _ {w h : ℕ} (bits : List ℕ) (sides : Sides w h) (long : length bits �
   pub marker-on : (i : ℕ) → i < length (markersOf w h bits)
       → On w h (getD (markersOf w h bits) i blank .x) (getD (markersOf w h bits) i blank .y)
   marker-on i l = let m = the-marker i l in rw (m .3) (bit-on sides (m .0))
+
+  -- No two on one crossing: they are those of two bits, and a crossing has one place in the raster.
+  pub markers-apart : (i j : ℕ) → i < j → j < length (markersOf w h bits)
+      → getD (markersOf w h bits) i blank .x ≡ getD (markersOf w h bits) j blank .x
+      → getD (markersOf w h bits) i blank .y ≡ getD (markersOf w h bits) j blank .y → ⊥
+  unfolding markersOf
+  markers-apart i j o l p q =
+      let m = markers-order w h 1 0 bits i j o (omega (arith, markers-count)) in
+      let a : m .place % w ≡ m .later % w = sym (x-of i (m .place) (m .is)) ∙ p ∙ x-of j (m .later) (m .later-is) in
+      let b : h - (m .place / w + 1) ≡ h - (m .later / w + 1) = sym (y-of i (m .place) (m .is)) ∙ q ∙ y-of j (m .later) (m .later-is) in
+      let first = bit-place sides (m .place) (omega (arith, m .order, m .below)) in
+      let second = bit-place sides (m .later) (omega (arith, m .below)) in
+      omega (arith, m .order, first, second, ap₂ (rasterPlace w h) a b)
+    where
+      x-of : (t k : ℕ) → getD (markersOf w h bits) t blank ≡ markerAt w h (1 + t) (0 + k) → getD (markersOf w h bits) t blank .x ≡ k % w
+      x-of t k e = ap (λ (n : Marker). n .x) e ∙ ap (λ (c : ℕ). c % w) (omega arith)
+
+      y-of : (t k : ℕ) → getD (markersOf w h bits) t blank ≡ markerAt w h (1 + t) (0 + k) → getD (markersOf w h bits) t blank .y ≡ h - (k / w + 1)
+      y-of t k e = ap (λ (n : Marker). n .y) e ∙ ap (λ (c : ℕ). h - (c / w + 1)) (omega arith)
 
   -- On the file's rocks, and on every one.
   rock-file : AreBits bits → (x y : ℕ) → Rock (markersOf w h bits) x y → FileRock w h bits x y

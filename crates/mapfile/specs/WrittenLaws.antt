@@ -7,11 +7,14 @@ use Prim.Native.Nat.{ℕ, _+_, _*_, _-_}
 use native.Mathlib.Omega.{arith}
 use lib.ListN.{getD}
 use Rattle.field.specs.Map.{Sides, On}
+use Rattle.field.specs.Labels.{Rock}
 use Rattle.field.specs.Workings.Sheet.{sheet, sheet-length, sheet-at}
 use Rattle.mapfile.specs.Header.{Blank, feed, space, no-items, blank-item, Separator, Number, Numbers, last-blank, next-number}
 use Rattle.mapfile.specs.Raster.{packedBit, RawRaster}
-use Rattle.mapfile.specs.File.{raw, MapFile, FileRock, rasterPlace}
+use Rattle.mapfile.specs.File.{raw, MapFile, FileRock, rasterPlace, markersOf}
 use Rattle.mapfile.specs.Written.{PackedRows, Written}
+use Rattle.mapfile.specs.FileLaws.{map-file-one}
+use Rattle.mapfile.specs.RockLaws.{markers-of}
 use Rattle.mapfile.specs.PlainLaws.{plain-one}
 use Rattle.mapfile.specs.PackedLaws.{Told, packed-one}
 
@@ -91,3 +94,21 @@ written-map w h R told file sides p = (
   where
     split : (a b c : List ℕ) → 10 ∷ a ++ 32 ∷ b ++ 10 ∷ c ≡ 10 ∷ a ++ (32 ∷ b ++ 10 ∷ []) ++ c
     split a b c = simp append-assoc
+
+-- A file is read as this map: the width and height are those that were written, and the markers that reading makes stand exactly on its rocks.
+pub record ReadBack (w h : ℕ) (R : ℕ → ℕ → Type 0) (width height : ℕ) (bits : List ℕ) : Type 0 where
+  pub width-is : width ≡ w
+  pub height-is : height ≡ h
+  pub rocks : (x y : ℕ) → Rock (markersOf width height bits) x y ↔ (On w h x y × R x y)
+
+-- "Reading a written map ... gives the same crossings": by the grammar a file is one map at most, and what is written is that of the rocks.
+pub read-written : (w h : ℕ) (R : ℕ → ℕ → Type 0) → Told w h R → (file : List ℕ) → Sides w h → Written w h R file
+    → (width height : ℕ) (bits : List ℕ) → MapFile file width height bits → ReadBack w h R width height bits
+read-written w h R told file sides p width height bits m =
+    let k = written-map w h R told file sides p in
+    let e = map-file-one m (k .1) in
+    record { width-is = e .0; height-is = e .1; rocks = λ x y. rw (e .0, e .1, e .2) (there x y (k .1) (k .2)) }
+  where
+    there : {own : List ℕ} (x y : ℕ) → MapFile file w h own → ((x y : ℕ) → (FileRock w h own x y ↔ (On w h x y × R x y)))
+        → Rock (markersOf w h own) x y ↔ (On w h x y × R x y)
+    there x y n f = (λ r. f x y .0 (markers-of n x y .0 r), λ t. markers-of n x y .1 (f x y .1 t))
