@@ -4,9 +4,9 @@ use crate::lists::{Harm, LIST_HARMS};
 use crate::random::{Random, Weighted};
 use independent::map::Crossing;
 
-/// Sides that no map has. Those past 2^32 would be a small side if they were cut to fewer bits.
+/// Sides that no map has. Those past 2^32 would be a small side if they were cut to fewer bits. The side may be a bad one already.
 fn bad_side(random: &mut Random, side: usize) -> usize {
-    let cut = (1 << 32) + side;
+    let past = |n: usize| side.saturating_add(n);
     random.pick(&[
         0,
         0,
@@ -14,9 +14,9 @@ fn bad_side(random: &mut Random, side: usize) -> usize {
         65,
         66,
         128,
-        256 + side,
-        65_536 + side,
-        cut,
+        past(256),
+        past(65_536),
+        past(1 << 32),
         usize::MAX,
     ])
 }

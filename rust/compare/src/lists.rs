@@ -94,7 +94,7 @@ pub const LIST_HARMS: [Harm; 13] = [
             1 << 63,
             1 << 32,
             1 << 16,
-            (1 << 32) + case.count.max(1),
+            case.count.max(1).saturating_add(1 << 32),
         ]);
     }),
     ("first id 0", |_, case| {
