@@ -21,7 +21,7 @@ use Rattle.askings.specs.declared.Drove.{Drove}
 use Rattle.askings.specs.Promise.{MayDrive, no-hop, homeward, HopRest, HopsAnswer, RegionRest, RegionAnswer, DriveRest, DriveAnswer, RouteRest, end-is-closed, no-home, hops, nowhere, somewhere, no-region, short, filled}
 use Rattle.layer.specs.Rules
 use Rattle.layer.specs.Rules.{Rule, Gives, ClosedBy}
-use Rattle.layer.specs.Judging.{Fits}
+use Rattle.judging.specs.Judging.{Fits}
 use Rattle.layer.specs.Prepared.{Prepared}
 use Rattle.layer.specs.Calls.{HopCall, RegionCall, RegionAfter, DriveCall, RouteCall}
 use Rattle.layer.specs.RouteCalls.{drive-part}

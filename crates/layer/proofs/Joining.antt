@@ -20,7 +20,7 @@ use Rattle.askings.specs.Promise.{AnEndClosed, BothOpen}
 use Rattle.layer.specs.Rules
 use Rattle.layer.specs.Rules.{Rule, Gives, Misfit, RocksOf, ClosedBy}
 use Rattle.layer.specs.RuleLaws.{None, Rises, gives-none, sides-hold, on-holds}
-use Rattle.layer.specs.Judging.{Fits, FourFit}
+use Rattle.judging.specs.Judging.{Fits, FourFit}
 use Rattle.layer.specs.Prepared.{Prepared, asking-found}
 use Rattle.layer.specs.Calls.{Early, LabelsAfter}
 use Rattle.layer.proofs.Tables.{Reworded, gives-reworded, same, gives-early, gives-later}

@@ -19,7 +19,7 @@ use Rattle.askings.specs.declared.Four.{Four}
 use Rattle.askings.specs.declared.Assurance.{Assurance}
 use Rattle.askings.specs.Promise.{MayLabel, MayAsk, MayAskTwo, MayMeasure, LabelRest, DistancesRest, MeasureRest, AssuredRest, AssuredAnswer, end-is-closed, yes-home, no-home}
 use Rattle.layer.specs.Rules
-use Rattle.layer.specs.Judging.{FourFit}
+use Rattle.judging.specs.Judging.{FourFit}
 use Rattle.layer.specs.Prepared.{Prepared}
 use Rattle.layer.specs.Calls.{LabelCall, DistancesCall, MeasureCall, AssuredCall}
 use Rattle.layer.proofs.Tables.{Reworded, not-no}

@@ -1,5 +1,4 @@
 -- Laws that the proofs of the code cite.
-mod Told
 mod Tables
 mod Seeking
 mod Listing

@@ -26,7 +26,7 @@ use Rattle.layer.specs.Calls.{EnterCall, ClearCall}
 use Rattle.layer.specs.declared.Counted.{Counted}
 use Rattle.layer.proofs.Counted as R
 use Rattle.layer.proofs.Counted.Laws as R′
-use Rattle.layer.proofs.Told.{side-is}
+use Rattle.judging.proofs.Told.{side-is}
 use Rattle.layer.proofs.Seeking.{rising-of}
 
 -- An answer: the refusal, and the new count.

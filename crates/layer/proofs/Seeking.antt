@@ -18,7 +18,7 @@ use Rattle.records.specs.Promise.{Place}
 use Rattle.layer.specs.Rules
 use Rattle.layer.specs.Rules.{Gives}
 use Rattle.layer.specs.RuleLaws.{None, gives-none, Exactly, exactly}
-use Rattle.layer.specs.Judging.{enter-judged, clear-judged, FoundAt}
+use Rattle.judging.specs.Judging.{enter-judged, clear-judged, FoundAt}
 use Rattle.layer.specs.Prepared.{found-table}
 use Rattle.layer.proofs.Tables.{gives-reworded, same}
 

@@ -16,7 +16,7 @@ use Rattle.records.specs.Promise.{MayStamp}
 use Rattle.layer.specs.Rules
 use Rattle.layer.specs.Rules.{Rule, Gives}
 use Rattle.layer.specs.RuleLaws.{None, gives-none, holds, sides-hold}
-use Rattle.layer.specs.Judging.{asking-judged, list-judged}
+use Rattle.judging.specs.Judging.{asking-judged, list-judged}
 use Rattle.layer.specs.Prepared.{asking-found, found-table}
 
 abbrev pub Reworded : List Rule → List Rule → Type 0

@@ -18,7 +18,6 @@ pub mod Sharing
 pub mod RoundLaws
 pub mod RoundTrip
 pub mod Prepared
-pub mod Judging
 pub mod Files
 pub mod Writing
 pub mod Reading

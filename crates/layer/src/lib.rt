@@ -1,5 +1,4 @@
 // The public calls over the lent list of marker records. No call relies on its caller: each answers by the lowest refusal that applies, or succeeds.
-mod judging; // judging.rt: refusals told from numbers alone
 mod files; // files.rt: the two map-file calls
 pub mod route; // route.rt: the drive, of which a part of the route is handed back
 

@@ -51,22 +51,22 @@ use Rattle.walks.specs.Meeting.{Promised, asked-nothing, meets}
 use Rattle.walks.specs.Handing.{takes, hands, hears, ends-with}
 use Rattle.layer.specs.Rules
 use Rattle.layer.specs.Rules.{Gives}
-use Rattle.layer.specs.Judging.{clear-judged}
+use Rattle.judging.specs.Judging.{clear-judged}
 use Rattle.layer.specs.Prepared.{found-table}
 use Rattle.layer.specs.Calls.{ClearCall}
 use Rattle.layer.proofs.Counted as R
 use Rattle.layer.proofs.Counted.Laws as R′
-use Rattle.layer.proofs.Told.{is-zero, not-zero}
+use Rattle.judging.proofs.Told.{is-zero, not-zero}
 use Rattle.layer.proofs.Seeking.{clear-gives, clear-used}
 use Rattle.layer.proofs.Listing.{counted, counted-value, IsCounted, counted-is, counted-typed, clear-refused, clear-may, clear-done}
 use Rattle.layer.proofs.seek as seek
 use Rattle.layer.proofs.seek.Symbol as seek-def
 use Rattle.layer.proofs.seek.Symbol.{name as #seek}
 use Rattle.layer.proofs.seek.Met as seek-thm
-use Rattle.layer.proofs.judging.clear_refusal as judged
-use Rattle.layer.proofs.judging.clear_refusal.Symbol as judged-def
-use Rattle.layer.proofs.judging.clear_refusal.Symbol.{name as #clear-refusal}
-use Rattle.layer.proofs.judging.clear_refusal.Met as judged-thm
+use Rattle.judging.proofs.clear_refusal as judged
+use Rattle.judging.proofs.clear_refusal.Symbol as judged-def
+use Rattle.judging.proofs.clear_refusal.Symbol.{name as #clear-refusal}
+use Rattle.judging.proofs.clear_refusal.Met as judged-thm
 use Rattle.layer.proofs.bodkin_clear.Key.{name as #bodkin-clear}
 use Rattle.layer.proofs.bodkin_clear as this
 use Rattle.layer.proofs.bodkin_clear.Statement as stated
@@ -199,5 +199,5 @@ bodkin-clear-spec 𝓤 H 𝓜 𝓖 𝓡 =
     #bodkin-clear code.function (code.unfolded 𝓤 H 𝓜 𝓡)
     (clear-meets 𝓤 H (𝓖 .A) (givenOf 𝓤 H 𝓜 𝓖) (𝓜 .mem) (𝓡 .run) (tablesOf 𝓤 H 𝓜 (tables 𝓤 H 𝓜 𝓡 code.env))
     (cited 𝓤 H (Promised 𝓤 H (𝓖 .A) seek.ended (seek.clauses 𝓤 H (𝓖 .A) (𝓜 .mem) (𝓡 .run))) 𝓜 𝓡 code.env #seek seek-def.routine code.calls-layer·seek (seek-thm.met 𝓤 H 𝓜 𝓖 𝓡))
-    (cited 𝓤 H (Promised 𝓤 H (𝓖 .A) judged.ended (judged.clauses 𝓤 H (𝓖 .A) (𝓜 .mem) (𝓡 .run))) 𝓜 𝓡 code.env #clear-refusal judged-def.routine code.calls-layer·judging·clear-refusal (judged-thm.met 𝓤 H 𝓜 𝓖 𝓡))
+    (cited 𝓤 H (Promised 𝓤 H (𝓖 .A) judged.ended (judged.clauses 𝓤 H (𝓖 .A) (𝓜 .mem) (𝓡 .run))) 𝓜 𝓡 code.env #clear-refusal judged-def.routine code.calls-judging·clear-refusal (judged-thm.met 𝓤 H 𝓜 𝓖 𝓡))
     (cited 𝓤 H (Promised 𝓤 H (𝓖 .A) clear.ended (clear.clauses 𝓤 H (𝓖 .A) (𝓜 .mem) (𝓡 .run))) 𝓜 𝓡 code.env #clear clear-def.routine code.calls-records·clear (clear-thm.met 𝓤 H 𝓜 𝓖 𝓡)))

@@ -54,26 +54,26 @@ use Rattle.walks.specs.Meeting.{Promised, asked-nothing, meets}
 use Rattle.walks.specs.Handing.{takes, hands, hears, ends-with}
 use Rattle.layer.specs.Rules
 use Rattle.layer.specs.Rules.{Gives}
-use Rattle.layer.specs.Judging.{enter-judged}
+use Rattle.judging.specs.Judging.{enter-judged}
 use Rattle.layer.specs.Prepared.{found-table}
 use Rattle.layer.specs.Calls.{EnterCall}
 use Rattle.layer.proofs.Counted as R
 use Rattle.layer.proofs.Counted.Laws as R′
-use Rattle.layer.proofs.Told.{is-zero, not-zero}
+use Rattle.judging.proofs.Told.{is-zero, not-zero}
 use Rattle.layer.proofs.Seeking.{enter-gives}
 use Rattle.layer.proofs.Listing.{counted, counted-value, IsCounted, counted-is, counted-typed, enter-refused, enter-fits, enter-may, enter-done}
 use Rattle.layer.proofs.seek as seek
 use Rattle.layer.proofs.seek.Symbol as seek-def
 use Rattle.layer.proofs.seek.Symbol.{name as #seek}
 use Rattle.layer.proofs.seek.Met as seek-thm
-use Rattle.layer.proofs.judging.enter_refusal as judged
-use Rattle.layer.proofs.judging.enter_refusal.Symbol as judged-def
-use Rattle.layer.proofs.judging.enter_refusal.Symbol.{name as #enter-refusal}
-use Rattle.layer.proofs.judging.enter_refusal.Met as judged-thm
-use Rattle.layer.proofs.judging.marker as made
-use Rattle.layer.proofs.judging.marker.Symbol as made-def
-use Rattle.layer.proofs.judging.marker.Symbol.{name as #marker}
-use Rattle.layer.proofs.judging.marker.Met as made-thm
+use Rattle.judging.proofs.enter_refusal as judged
+use Rattle.judging.proofs.enter_refusal.Symbol as judged-def
+use Rattle.judging.proofs.enter_refusal.Symbol.{name as #enter-refusal}
+use Rattle.judging.proofs.enter_refusal.Met as judged-thm
+use Rattle.judging.proofs.marker as made
+use Rattle.judging.proofs.marker.Symbol as made-def
+use Rattle.judging.proofs.marker.Symbol.{name as #marker}
+use Rattle.judging.proofs.marker.Met as made-thm
 use Rattle.layer.proofs.bodkin_enter.Key.{name as #bodkin-enter}
 use Rattle.layer.proofs.bodkin_enter as this
 use Rattle.layer.proofs.bodkin_enter.Statement as stated
@@ -230,6 +230,6 @@ bodkin-enter-spec 𝓤 H 𝓜 𝓖 𝓡 =
     #bodkin-enter code.function (code.unfolded 𝓤 H 𝓜 𝓡)
     (enter-meets 𝓤 H (𝓖 .A) (givenOf 𝓤 H 𝓜 𝓖) (𝓜 .mem) (𝓡 .run) (tablesOf 𝓤 H 𝓜 (tables 𝓤 H 𝓜 𝓡 code.env))
     (cited 𝓤 H (Promised 𝓤 H (𝓖 .A) seek.ended (seek.clauses 𝓤 H (𝓖 .A) (𝓜 .mem) (𝓡 .run))) 𝓜 𝓡 code.env #seek seek-def.routine code.calls-layer·seek (seek-thm.met 𝓤 H 𝓜 𝓖 𝓡))
-    (cited 𝓤 H (Promised 𝓤 H (𝓖 .A) judged.ended (judged.clauses 𝓤 H (𝓖 .A) (𝓜 .mem) (𝓡 .run))) 𝓜 𝓡 code.env #enter-refusal judged-def.routine code.calls-layer·judging·enter-refusal (judged-thm.met 𝓤 H 𝓜 𝓖 𝓡))
-    (cited 𝓤 H (Promised 𝓤 H (𝓖 .A) made.ended (made.clauses 𝓤 H (𝓖 .A) (𝓜 .mem) (𝓡 .run))) 𝓜 𝓡 code.env #marker made-def.routine code.calls-layer·judging·marker (made-thm.met 𝓤 H 𝓜 𝓖 𝓡))
+    (cited 𝓤 H (Promised 𝓤 H (𝓖 .A) judged.ended (judged.clauses 𝓤 H (𝓖 .A) (𝓜 .mem) (𝓡 .run))) 𝓜 𝓡 code.env #enter-refusal judged-def.routine code.calls-judging·enter-refusal (judged-thm.met 𝓤 H 𝓜 𝓖 𝓡))
+    (cited 𝓤 H (Promised 𝓤 H (𝓖 .A) made.ended (made.clauses 𝓤 H (𝓖 .A) (𝓜 .mem) (𝓡 .run))) 𝓜 𝓡 code.env #marker made-def.routine code.calls-judging·marker (made-thm.met 𝓤 H 𝓜 𝓖 𝓡))
     (cited 𝓤 H (Promised 𝓤 H (𝓖 .A) enter.ended (enter.clauses 𝓤 H (𝓖 .A) (𝓜 .mem) (𝓡 .run))) 𝓜 𝓡 code.env #enter enter-def.routine code.calls-records·enter (enter-thm.met 𝓤 H 𝓜 𝓖 𝓡)))

@@ -54,14 +54,14 @@ use Rattle.walks.specs.Lending.{sliceAt, mutOwn, lends, takes-back, says-last, 
 use Rattle.walks.specs.Meeting.{Promised, asked-nothing, meets}
 use Rattle.walks.specs.Handing.{takes, hands, hears, ends-with}
 use Rattle.layer.specs.Rules.{Gives}
-use Rattle.layer.specs.Judging.{asking-judged}
+use Rattle.judging.specs.Judging.{asking-judged}
 use Rattle.layer.specs.Prepared.{Prepared, asking-found}
 use Rattle.layer.proofs.Tables.{asking-gives, asking-good}
-use Rattle.layer.proofs.Told.{is-zero, not-zero}
-use Rattle.layer.proofs.judging.lowest as lowest
-use Rattle.layer.proofs.judging.lowest.Symbol as lowest-def
-use Rattle.layer.proofs.judging.lowest.Symbol.{name as #lowest}
-use Rattle.layer.proofs.judging.lowest.Met as lowest-thm
+use Rattle.judging.proofs.Told.{is-zero, not-zero}
+use Rattle.judging.proofs.lowest as lowest
+use Rattle.judging.proofs.lowest.Symbol as lowest-def
+use Rattle.judging.proofs.lowest.Symbol.{name as #lowest}
+use Rattle.judging.proofs.lowest.Met as lowest-thm
 use Rattle.layer.proofs.prepare.Key.{name as #prepare}
 use Rattle.layer.proofs.prepare as this
 use Rattle.layer.proofs.prepare.Statement as stated
@@ -250,5 +250,5 @@ prepare-spec 𝓤 H 𝓜 𝓖 𝓡 =
     #prepare code.function (code.unfolded 𝓤 H 𝓜 𝓡)
     (prepare-meets 𝓤 H (𝓖 .A) (givenOf 𝓤 H 𝓜 𝓖) (𝓜 .mem) (𝓡 .run) (tablesOf 𝓤 H 𝓜 (tables 𝓤 H 𝓜 𝓡 code.env))
     (cited 𝓤 H (Promised 𝓤 H (𝓖 .A) formed.ended (formed.clauses 𝓤 H (𝓖 .A) (𝓜 .mem) (𝓡 .run))) 𝓜 𝓡 code.env #well-formed formed-def.routine code.calls-records·well-formed (formed-thm.met 𝓤 H 𝓜 𝓖 𝓡))
-    (cited 𝓤 H (Promised 𝓤 H (𝓖 .A) lowest.ended (lowest.clauses 𝓤 H (𝓖 .A) (𝓜 .mem) (𝓡 .run))) 𝓜 𝓡 code.env #lowest lowest-def.routine code.calls-layer·judging·lowest (lowest-thm.met 𝓤 H 𝓜 𝓖 𝓡))
+    (cited 𝓤 H (Promised 𝓤 H (𝓖 .A) lowest.ended (lowest.clauses 𝓤 H (𝓖 .A) (𝓜 .mem) (𝓡 .run))) 𝓜 𝓡 code.env #lowest lowest-def.routine code.calls-judging·lowest (lowest-thm.met 𝓤 H 𝓜 𝓖 𝓡))
     (cited 𝓤 H (Promised 𝓤 H (𝓖 .A) stamp.ended (stamp.clauses 𝓤 H (𝓖 .A) (𝓜 .mem) (𝓡 .run))) 𝓜 𝓡 code.env #stamp stamp-def.routine code.calls-records·stamp (stamp-thm.met 𝓤 H 𝓜 𝓖 𝓡)))

@@ -58,19 +58,19 @@ use Rattle.walks.specs.Lending.{sliceAt, doubles}
 use Rattle.walks.specs.Meeting.{Promised, asked-nothing, meets}
 use Rattle.walks.specs.Handing.{takes, hands, ends-with}
 use Rattle.layer.specs.Rules.{Gives}
-use Rattle.layer.specs.Judging.{list-judged, FoundAt}
+use Rattle.judging.specs.Judging.{list-judged, FoundAt}
 use Rattle.layer.specs.Prepared.{found-table}
 use Rattle.layer.proofs.Tables.{list-gives, list-good}
 use Rattle.layer.proofs.Seeking.{rising-of, found-none, found-there}
-use Rattle.layer.proofs.Told.{is-zero, not-zero}
-use Rattle.layer.proofs.judging.list_refusal as judged
-use Rattle.layer.proofs.judging.list_refusal.Symbol as judged-def
-use Rattle.layer.proofs.judging.list_refusal.Symbol.{name as #list-refusal}
-use Rattle.layer.proofs.judging.list_refusal.Met as judged-thm
-use Rattle.layer.proofs.judging.bears as bears
-use Rattle.layer.proofs.judging.bears.Symbol as bears-def
-use Rattle.layer.proofs.judging.bears.Symbol.{name as #bears}
-use Rattle.layer.proofs.judging.bears.Met as bears-thm
+use Rattle.judging.proofs.Told.{is-zero, not-zero}
+use Rattle.judging.proofs.list_refusal as judged
+use Rattle.judging.proofs.list_refusal.Symbol as judged-def
+use Rattle.judging.proofs.list_refusal.Symbol.{name as #list-refusal}
+use Rattle.judging.proofs.list_refusal.Met as judged-thm
+use Rattle.judging.proofs.bears as bears
+use Rattle.judging.proofs.bears.Symbol as bears-def
+use Rattle.judging.proofs.bears.Symbol.{name as #bears}
+use Rattle.judging.proofs.bears.Met as bears-thm
 use Rattle.layer.proofs.seek.Key.{name as #seek}
 use Rattle.layer.proofs.seek as this
 use Rattle.layer.proofs.seek.Statement as stated
@@ -219,6 +219,6 @@ seek-spec 𝓤 H 𝓜 𝓖 𝓡 =
     #seek code.function (code.unfolded 𝓤 H 𝓜 𝓡)
     (seek-meets 𝓤 H (𝓖 .A) (givenOf 𝓤 H 𝓜 𝓖) (𝓜 .mem) (𝓡 .run) (tablesOf 𝓤 H 𝓜 (tables 𝓤 H 𝓜 𝓡 code.env))
     (cited 𝓤 H (Promised 𝓤 H (𝓖 .A) formed.ended (formed.clauses 𝓤 H (𝓖 .A) (𝓜 .mem) (𝓡 .run))) 𝓜 𝓡 code.env #well-formed formed-def.routine code.calls-records·well-formed (formed-thm.met 𝓤 H 𝓜 𝓖 𝓡))
-    (cited 𝓤 H (Promised 𝓤 H (𝓖 .A) judged.ended (judged.clauses 𝓤 H (𝓖 .A) (𝓜 .mem) (𝓡 .run))) 𝓜 𝓡 code.env #list-refusal judged-def.routine code.calls-layer·judging·list-refusal (judged-thm.met 𝓤 H 𝓜 𝓖 𝓡))
+    (cited 𝓤 H (Promised 𝓤 H (𝓖 .A) judged.ended (judged.clauses 𝓤 H (𝓖 .A) (𝓜 .mem) (𝓡 .run))) 𝓜 𝓡 code.env #list-refusal judged-def.routine code.calls-judging·list-refusal (judged-thm.met 𝓤 H 𝓜 𝓖 𝓡))
     (cited 𝓤 H (Promised 𝓤 H (𝓖 .A) place.ended (place.clauses 𝓤 H (𝓖 .A) (𝓜 .mem) (𝓡 .run))) 𝓜 𝓡 code.env #place-of place-def.routine code.calls-records·place-of (place-thm.met 𝓤 H 𝓜 𝓖 𝓡))
-    (cited 𝓤 H (Promised 𝓤 H (𝓖 .A) bears.ended (bears.clauses 𝓤 H (𝓖 .A) (𝓜 .mem) (𝓡 .run))) 𝓜 𝓡 code.env #bears bears-def.routine code.calls-layer·judging·bears (bears-thm.met 𝓤 H 𝓜 𝓖 𝓡)))
+    (cited 𝓤 H (Promised 𝓤 H (𝓖 .A) bears.ended (bears.clauses 𝓤 H (𝓖 .A) (𝓜 .mem) (𝓡 .run))) 𝓜 𝓡 code.env #bears bears-def.routine code.calls-judging·bears (bears-thm.met 𝓤 H 𝓜 𝓖 𝓡)))

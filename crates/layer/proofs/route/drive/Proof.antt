@@ -46,14 +46,14 @@ use Rattle.walks.specs.Lending.{sliceAt}
 use Rattle.walks.specs.Meeting.{Promised, asked-nothing, meets}
 use Rattle.walks.specs.Handing.{takes, hands, hears, ends-owning}
 use Rattle.walks.specs.Returning.{returns-owned}
-use Rattle.layer.specs.Judging.{Fits}
+use Rattle.judging.specs.Judging.{Fits}
 use Rattle.layer.specs.Calls.{RouteCall}
 use Rattle.layer.proofs.Asking.{PrepareC, prepares, parts-tokens, joins-tokens, retold}
 use Rattle.layer.proofs.DriveAnswers.{drive-may, route-joined}
-use Rattle.layer.proofs.judging.fits as fits
-use Rattle.layer.proofs.judging.fits.Symbol as fits-def
-use Rattle.layer.proofs.judging.fits.Symbol.{name as #fits}
-use Rattle.layer.proofs.judging.fits.Met as fits-thm
+use Rattle.judging.proofs.fits as fits
+use Rattle.judging.proofs.fits.Symbol as fits-def
+use Rattle.judging.proofs.fits.Symbol.{name as #fits}
+use Rattle.judging.proofs.fits.Met as fits-thm
 use Rattle.layer.proofs.prepare as prepare
 use Rattle.layer.proofs.prepare.Symbol as prepare-def
 use Rattle.layer.proofs.prepare.Symbol.{name as #prepare}
@@ -192,6 +192,6 @@ drive-spec 𝓤 H 𝓜 𝓖 𝓡 =
     entered 𝓤 H (tripleOf 𝓤 H (𝓖 .A) this.signature (this.spec 𝓤 H (𝓖 .A) (𝓜 .mem) (𝓡 .run))) (tables 𝓤 H 𝓜 𝓡 code.env .C) (tables 𝓤 H 𝓜 𝓡 code.env .Λ)
     #drive code.function (code.unfolded 𝓤 H 𝓜 𝓡)
     (drive-meets 𝓤 H (𝓖 .A) (givenOf 𝓤 H 𝓜 𝓖) (𝓜 .mem) (𝓡 .run) (tablesOf 𝓤 H 𝓜 (tables 𝓤 H 𝓜 𝓡 code.env))
-    (cited 𝓤 H (Promised 𝓤 H (𝓖 .A) fits.ended (fits.clauses 𝓤 H (𝓖 .A) (𝓜 .mem) (𝓡 .run))) 𝓜 𝓡 code.env #fits fits-def.routine code.calls-layer·judging·fits (fits-thm.met 𝓤 H 𝓜 𝓖 𝓡))
+    (cited 𝓤 H (Promised 𝓤 H (𝓖 .A) fits.ended (fits.clauses 𝓤 H (𝓖 .A) (𝓜 .mem) (𝓡 .run))) 𝓜 𝓡 code.env #fits fits-def.routine code.calls-judging·fits (fits-thm.met 𝓤 H 𝓜 𝓖 𝓡))
     (cited 𝓤 H (Promised 𝓤 H (𝓖 .A) prepare.ended (prepare.clauses 𝓤 H (𝓖 .A) (𝓜 .mem) (𝓡 .run))) 𝓜 𝓡 code.env #prepare prepare-def.routine code.calls-layer·prepare (prepare-thm.met 𝓤 H 𝓜 𝓖 𝓡))
     (cited 𝓤 H (Promised 𝓤 H (𝓖 .A) rest.ended (rest.clauses 𝓤 H (𝓖 .A) (𝓜 .mem) (𝓡 .run))) 𝓜 𝓡 code.env #rest rest-def.routine code.calls-askings·route (rest-thm.met 𝓤 H 𝓜 𝓖 𝓡)))

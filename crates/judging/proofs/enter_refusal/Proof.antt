@@ -3,9 +3,9 @@ use mathlib.Core.Path.{refl}
 use mathlib.Core.Logic.{inl, inr, ⊎-elim}
 use native.Mathlib.Omega.{arith}
 use borrow.Author.Needs.{needs}
-use Rattle.layer.proofs.Told.{most-is, told-no, told-yes}
-use Rattle.layer.proofs.judging.enter_refusal.Statement.{statement}
-use Rattle.layer.proofs.judging.enter_refusal.Tie as tie
+use Rattle.judging.proofs.Told.{most-is, told-no, told-yes}
+use Rattle.judging.proofs.enter_refusal.Statement.{statement}
+use Rattle.judging.proofs.enter_refusal.Tie as tie
 
 returns : tie.Need-returns
 returns c = inl (omega arith, refl)

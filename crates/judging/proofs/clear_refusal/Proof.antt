@@ -2,8 +2,8 @@
 use mathlib.Core.Path.{refl}
 use mathlib.Core.Logic.{inl, inr}
 use native.Mathlib.Omega.{arith}
-use Rattle.layer.proofs.judging.clear_refusal.Statement.{statement}
-use Rattle.layer.proofs.judging.clear_refusal.Tie as tie
+use Rattle.judging.proofs.clear_refusal.Statement.{statement}
+use Rattle.judging.proofs.clear_refusal.Tie as tie
 
 returns : tie.Need-returns
 returns c = inl (omega arith, refl)

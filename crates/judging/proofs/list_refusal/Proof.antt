@@ -3,9 +3,9 @@ use mathlib.Core.Path.{refl}
 use mathlib.Core.Logic.{inl, inr}
 use borrow.Author.Needs.{needs}
 use borrow.Author.Tests.{not-true}
-use Rattle.layer.proofs.Told.{told-no, told-yes, yes-no}
-use Rattle.layer.proofs.judging.list_refusal.Statement.{statement}
-use Rattle.layer.proofs.judging.list_refusal.Tie as tie
+use Rattle.judging.proofs.Told.{told-no, told-yes, yes-no}
+use Rattle.judging.proofs.list_refusal.Statement.{statement}
+use Rattle.judging.proofs.list_refusal.Tie as tie
 
 sized-requires : tie.Need-sized-requires
 sized-requires c κs = search needs

@@ -1,9 +1,9 @@
 -- `on_map` meets its contract: it tests x, then y.
 use native.Mathlib.Omega.{arith}
 use borrow.Author.Tests.{ltb-true, lt-ltb}
-use Rattle.layer.proofs.Told.{refused}
-use Rattle.layer.proofs.judging.on_map.Statement.{statement}
-use Rattle.layer.proofs.judging.on_map.Tie as tie
+use Rattle.judging.proofs.Told.{refused}
+use Rattle.judging.proofs.on_map.Statement.{statement}
+use Rattle.judging.proofs.on_map.Tie as tie
 
 returns : tie.Need-returns
 returns c = refused (λ o. omega (arith, o .in-x))

@@ -6,8 +6,8 @@ ghost use mathlib.Core.Logic.{_↔_};
 ghost use Prim.Native.Nat.{_<_, _^_};
 ghost use Rattle.field.specs.Map.{Sides, On};
 ghost use Rattle.markers.specs.Promise.{marker};
-ghost use Rattle.layer.specs.Rules.{Gives};
-ghost use Rattle.layer.specs.Judging.{Fits, FourFit, asking-judged, list-judged, enter-judged, clear-judged, FoundAt};
+ghost use Rattle.judging.specs.Rule.{Gives};
+ghost use Rattle.judging.specs.Judging.{Fits, FourFit, asking-judged, list-judged, enter-judged, clear-judged, FoundAt};
 
 // "Width and height: 1 to 64 each." "At most 4,096 are in use."
 const SIDE: usize = 64;

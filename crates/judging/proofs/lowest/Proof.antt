@@ -4,9 +4,9 @@ use mathlib.Core.Logic.{inl, inr, ⊎-elim}
 use native.Mathlib.Omega.{arith}
 use borrow.Author.Needs.{needs}
 use borrow.Author.Tests.{not-true}
-use Rattle.layer.proofs.Told.{told-no, told-yes, yes-no, crossings-fit}
-use Rattle.layer.proofs.judging.lowest.Statement.{statement}
-use Rattle.layer.proofs.judging.lowest.Tie as tie
+use Rattle.judging.proofs.Told.{told-no, told-yes, yes-no, crossings-fit}
+use Rattle.judging.proofs.lowest.Statement.{statement}
+use Rattle.judging.proofs.lowest.Tie as tie
 
 sized-requires : tie.Need-sized-requires
 sized-requires c κs = search needs

@@ -2,9 +2,9 @@
 use native.Mathlib.Omega.{arith}
 use borrow.Author.Tests.{leb-true, le-leb}
 use Prim.Native.Nat.{_≤_}
-use Rattle.layer.proofs.Told.{side-is, refused}
-use Rattle.layer.proofs.judging.sized.Statement.{statement}
-use Rattle.layer.proofs.judging.sized.Tie as tie
+use Rattle.judging.proofs.Told.{side-is, refused}
+use Rattle.judging.proofs.sized.Statement.{statement}
+use Rattle.judging.proofs.sized.Tie as tie
 
 returns : tie.Need-returns
 returns c = refused (λ s. omega (arith, s .some-w))

@@ -1,9 +1,9 @@
 -- `fits` meets its contract: the sides are within the limit where the product is made.
 use borrow.Author.Needs.{needs}
 use borrow.Author.Tests.{eqb-true, eq-eqb}
-use Rattle.layer.proofs.Told.{refused, told-no, told-yes, crossings-fit}
-use Rattle.layer.proofs.judging.fits.Statement.{statement}
-use Rattle.layer.proofs.judging.fits.Tie as tie
+use Rattle.judging.proofs.Told.{refused, told-no, told-yes, crossings-fit}
+use Rattle.judging.proofs.fits.Statement.{statement}
+use Rattle.judging.proofs.fits.Tie as tie
 
 sized-requires : tie.Need-sized-requires
 sized-requires c κs = search needs

@@ -1,8 +1,8 @@
 -- `four_fit` meets its contract: the sheets are tested one by one.
 use borrow.Author.Needs.{needs}
-use Rattle.layer.proofs.Told.{refused, told-no, told-yes}
-use Rattle.layer.proofs.judging.four_fit.Statement.{statement}
-use Rattle.layer.proofs.judging.four_fit.Tie as tie
+use Rattle.judging.proofs.Told.{refused, told-no, told-yes}
+use Rattle.judging.proofs.four_fit.Statement.{statement}
+use Rattle.judging.proofs.four_fit.Tie as tie
 
 fits-requires : tie.Need-fits-requires
 fits-requires c κs = search needs
