@@ -70,9 +70,9 @@ drive-told (Filled n after) p e f =
     filled (p .0) (p .1) (rw (k .crossings) at (k .fits)) (rw (k .crossings, ← f) at (k .driven)) (rw (k .crossings) at (k .rest)) (rw (k .crossings) at e)
 
 -- What a drive fills is no longer than the route: at a refusal it is nothing.
-pub drove-within : {n w h sx sy dx dy z z′ : ℕ} {s g s′ g′ route route′ : List ℕ} {r : Drove} → DriveRest n w h sx sy dx dy s g route z s′ g′ route′ z′ r
-    → r .length ≤ length route
-drove-within {n} {w} {h} {sx} {sy} {dx} {dy} {z} {z′} {s} {g} {g′ = g′} {route = route} {route′ = route′} {r = r} e = go (ℕ-discrete n 0)
+pub drove-within : {n w h sx sy dx dy z z′ : ℕ} {s g s′ g′ route route′ : List ℕ} {r : Drove}
+    → DriveRest n w h sx sy dx dy s g route z s′ g′ route′ z′ r → r .length ≤ length route
+drove-within {n} {w} {h} {sx} {sy} {dx} {dy} {z} {z′} {g = g} {g′ = g′} {route = route} {route′ = route′} {r = r} e = go (ℕ-discrete n 0)
   where
     long : (m : ℕ) → m ≤ length route → (k : ℕ) → r ≡ record { refusal = k; length = m } → r .length ≤ length route
     long m l k is = subst (λ (v : Drove). v .length ≤ length route) (sym is) l

@@ -139,10 +139,10 @@ pub record DriveRest (n w h sx sy dx dy : ℕ) (s g route : List ℕ) (z : ℕ) 
   pub refused : ¬ (n ≡ 0) → (s′ ≡ s) × (g′ ≡ g) × (route′ ≡ route) × (z′ ≡ z) × (r ≡ record { refusal = n; length = 0 })
   pub done : n ≡ 0 → LabelSheet (Stones w h s) w h s′ × DriveAnswer w h (ClosedOn w h s) sx sy dx dy g route z g′ route′ z′ r
 
--- route: the same drive, of which the leading part of the route is handed back, as many crossings as were filled; number and state go out through lent
--- numbers. route′ is the route as `drive` leaves it.
+-- route: the same drive, of which the leading part of the route is handed back, as many crossings as were filled; number and state go out through
+-- lent numbers. route′ is the route as `drive` leaves it.
 pub record RouteRest (n w h sx sy dx dy : ℕ) (s g route : List ℕ) (z : ℕ) (s′ g′ part : List ℕ) (number z′ : ℕ) : Type 0 where
   pub route′ : List ℕ
-  pub filled : ℕ
-  pub drove : DriveRest n w h sx sy dx dy s g route z s′ g′ route′ z′ (record { refusal = number; length = filled })
-  pub part-is : part ≡ take filled route′
+  pub crossings : ℕ
+  pub drove : DriveRest n w h sx sy dx dy s g route z s′ g′ route′ z′ (record { refusal = number; length = crossings })
+  pub part-is : part ≡ take crossings route′

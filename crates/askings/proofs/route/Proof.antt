@@ -24,7 +24,7 @@ same-length-2 c = search needs
 returns : tie.Need-returns
 returns c =
     let d = c .before .before .before .before .before .before .before in
-    record { route′ = d .drive .last .1 .1 .1 .1 .1 .1 .1 .1 .1 .0; filled = _; drove = d .drive .ensures; part-is = refl }
+    record { route′ = d .drive .last .1 .1 .1 .1 .1 .1 .1 .1 .1 .0; crossings = _; drove = d .drive .ensures; part-is = refl }
 
 pub route-spec : {M : Type 1} → statement M
 route-spec =
