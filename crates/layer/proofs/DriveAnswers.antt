@@ -19,12 +19,12 @@ use Rattle.field.specs.Workings.SameLaws.{alike-back, open-same, assured-same, 
 use Rattle.askings.specs.declared.Homeward.{Homeward}
 use Rattle.askings.specs.declared.Drove.{Drove}
 use Rattle.askings.specs.Promise.{MayDrive, no-hop, homeward, HopRest, HopsAnswer, RegionRest, RegionAnswer, DriveRest, DriveAnswer, RouteRest, end-is-closed, no-home, hops, nowhere, somewhere, no-region, short, filled}
-use Rattle.layer.specs.Rules
-use Rattle.layer.specs.Rules.{Rule, Gives, ClosedBy}
+use Rattle.calls.specs.Rules
+use Rattle.calls.specs.Rules.{Rule, Gives, ClosedBy}
 use Rattle.judging.specs.Judging.{Fits}
 use Rattle.layer.specs.Prepared.{Prepared}
-use Rattle.layer.specs.Calls.{HopCall, RegionCall, RegionAfter, DriveCall, RouteCall}
-use Rattle.layer.specs.RouteCalls.{drive-part}
+use Rattle.calls.specs.Calls.{HopCall, RegionCall, RegionAfter, DriveCall, RouteCall}
+use Rattle.calls.specs.RouteCalls.{drive-part}
 use Rattle.layer.proofs.Tables.{not-no}
 use Rattle.layer.proofs.Joining.{Asked, none-tell, one-tells, refusal-early, others-good, sheet-stamped, places-good, closed-alike, end-closed-by, ends-open-by, refused-two, answered-two}
 

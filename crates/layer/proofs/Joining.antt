@@ -17,12 +17,12 @@ use Rattle.field.specs.Workings.Sheet.{Marked}
 use Rattle.field.specs.Workings.SameLaws.{Alike, closed-same, label-sheet-same}
 use Rattle.labels.specs.Promise.{Stamped}
 use Rattle.askings.specs.Promise.{AnEndClosed, BothOpen}
-use Rattle.layer.specs.Rules
-use Rattle.layer.specs.Rules.{Rule, Gives, Misfit, RocksOf, ClosedBy}
-use Rattle.layer.specs.RuleLaws.{None, Rises, gives-none, sides-hold, on-holds}
+use Rattle.calls.specs.Rules
+use Rattle.calls.specs.Rules.{Rule, Gives, Misfit, RocksOf, ClosedBy}
+use Rattle.calls.specs.RuleLaws.{None, Rises, gives-none, sides-hold, on-holds}
 use Rattle.judging.specs.Judging.{Fits, FourFit}
 use Rattle.layer.specs.Prepared.{Prepared, asking-found}
-use Rattle.layer.specs.Calls.{Early, LabelsAfter}
+use Rattle.calls.specs.Calls.{Early, LabelsAfter}
 use Rattle.layer.proofs.Tables.{Reworded, gives-reworded, same, gives-early, gives-later}
 
 -- `others` tells of the other sheets, on a map within the limit.

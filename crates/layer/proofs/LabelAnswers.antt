@@ -18,10 +18,10 @@ use Rattle.askings.specs.declared.Labelling.{Labelling}
 use Rattle.askings.specs.declared.Four.{Four}
 use Rattle.askings.specs.declared.Assurance.{Assurance}
 use Rattle.askings.specs.Promise.{MayLabel, MayAsk, MayAskTwo, MayMeasure, LabelRest, DistancesRest, MeasureRest, AssuredRest, AssuredAnswer, end-is-closed, yes-home, no-home}
-use Rattle.layer.specs.Rules
+use Rattle.calls.specs.Rules
 use Rattle.judging.specs.Judging.{FourFit}
 use Rattle.layer.specs.Prepared.{Prepared}
-use Rattle.layer.specs.Calls.{LabelCall, DistancesCall, MeasureCall, AssuredCall}
+use Rattle.calls.specs.Calls.{LabelCall, DistancesCall, MeasureCall, AssuredCall}
 use Rattle.layer.proofs.Tables.{Reworded, not-no}
 use Rattle.layer.proofs.Joining.{none-tell, yes-is-no, four-tell, others-good, sheet-stamped, places-good, stones-alike, closed-alike, end-closed-by, ends-open-by, refused-before, answered, refused-two, answered-two}
 

@@ -6,4 +6,3 @@ mod Joining
 mod LabelAnswers
 mod DriveAnswers
 mod Asking
-mod Marks

@@ -19,13 +19,13 @@ use Rattle.field.specs.Map.{On}
 use Rattle.markers.specs.List.{InUse}
 use Rattle.markers.specs.Promise.{marker}
 use Rattle.records.specs.Promise.{MayEnter, Enters, MayClear, Clears}
-use Rattle.layer.specs.Rules
-use Rattle.layer.specs.Rules.{Gives}
-use Rattle.layer.specs.RuleLaws.{None, gives-none, holds, sides-hold, on-holds, formed-holds}
-use Rattle.layer.specs.Calls.{EnterCall, ClearCall}
-use Rattle.layer.specs.declared.Counted.{Counted}
-use Rattle.layer.proofs.Counted as R
-use Rattle.layer.proofs.Counted.Laws as R′
+use Rattle.calls.specs.Rules
+use Rattle.calls.specs.Rules.{Gives}
+use Rattle.calls.specs.RuleLaws.{None, gives-none, holds, sides-hold, on-holds, formed-holds}
+use Rattle.calls.specs.Calls.{EnterCall, ClearCall}
+use Rattle.calls.specs.declared.Counted.{Counted}
+use Rattle.calls.proofs.Counted as R
+use Rattle.calls.proofs.Counted.Laws as R′
 use Rattle.judging.proofs.Told.{side-is}
 use Rattle.layer.proofs.Seeking.{rising-of}
 

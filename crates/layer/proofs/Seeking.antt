@@ -15,9 +15,9 @@ use Rattle.markers.specs.List.{slot, WellFormed, InUse}
 use Rattle.markers.specs.Promise.{Rising}
 use Rattle.markers.specs.Laws.Rising.{rises-le}
 use Rattle.records.specs.Promise.{Place}
-use Rattle.layer.specs.Rules
-use Rattle.layer.specs.Rules.{Gives}
-use Rattle.layer.specs.RuleLaws.{None, gives-none, Exactly, exactly}
+use Rattle.calls.specs.Rules
+use Rattle.calls.specs.Rules.{Gives}
+use Rattle.calls.specs.RuleLaws.{None, gives-none, Exactly, exactly}
 use Rattle.judging.specs.Judging.{enter-judged, clear-judged, FoundAt}
 use Rattle.layer.specs.Prepared.{found-table}
 use Rattle.layer.proofs.Tables.{gives-reworded, same}

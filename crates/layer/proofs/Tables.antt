@@ -13,9 +13,9 @@ use Rattle.field.specs.declared.Marker.{Marker}
 use Rattle.field.specs.Map.{Sides}
 use Rattle.markers.specs.List.{WellFormed}
 use Rattle.records.specs.Promise.{MayStamp}
-use Rattle.layer.specs.Rules
-use Rattle.layer.specs.Rules.{Rule, Gives}
-use Rattle.layer.specs.RuleLaws.{None, gives-none, holds, sides-hold}
+use Rattle.calls.specs.Rules
+use Rattle.calls.specs.Rules.{Rule, Gives}
+use Rattle.calls.specs.RuleLaws.{None, gives-none, holds, sides-hold}
 use Rattle.judging.specs.Judging.{asking-judged, list-judged}
 use Rattle.layer.specs.Prepared.{asking-found, found-table}
 

@@ -1,82 +1,11 @@
--- What the parts of the two map-file calls promise. Writing: the map's size is told, the first part finds refusals 1 and 3 and stamps the rocks on a
--- sheet of that size, and the second part finds 16 and 17 or writes. Reading: the first part finds every refusal and has the file's markers in slices
--- of their own, and the second part puts them in the list.
-use mathlib.Core.Path.{_≡_}
+-- The second part of reading: the markers that the first part has in slices of their own are put in the list.
 use mathlib.Core.List.{List, _++_}
-use mathlib.Core.Logic.{_⊎_}
-use Prim.Native.Nat.{ℕ, _*_, _≤_}
+use Prim.Native.Nat.{ℕ, _≤_}
 use lib.ListN.{length, take, drop}
 use Rattle.field.specs.declared.Marker.{Marker}
-use Rattle.field.specs.Map.{Sides, side, most-markers}
-use Rattle.field.specs.Refusals.{success, no-slot, shared-crossing}
-use Rattle.field.specs.Workings.MarkCount.{marks}
-use Rattle.markers.specs.Promise.{listOf, Parallel}
-use Rattle.mapfile.specs.File.{MapFile, markersOf, FileFault, NoSlot}
-use Rattle.writer.specs.Promise.{Asked, Writes, wroteNumber}
-use Rattle.writer.specs.declared.Wrote.{Wrote}
-use Rattle.writer.specs.declared.Wrote.the-variants.{Bytes, Short}
-use Rattle.reader.specs.Promise.{readNumber}
-use Rattle.reader.specs.declared.Reading.{Reading}
-use Rattle.reader.specs.declared.Reading.the-variants.{Map, Refused}
-use Rattle.layer.specs.declared.ReadMap.{ReadMap}
-use Rattle.layer.specs.declared.WroteMap.{WroteMap}
+use Rattle.markers.specs.Promise.{Parallel}
 
--- How many crossings the map has. Whatever is asked, it is at most as many as a map may have.
-pub record Area (w h r : ℕ) : Type 0 where
-  pub is : Sides w h → r ≡ h * w
-  pub most : r ≤ side * side
-
--- Document 01's values for each answer of the writer.
-abbrev pub wroteMap : Wrote → WroteMap
-wroteMap (Bytes n) = record { refusal = wroteNumber (Bytes n); bytes = n }
-wroteMap Short = record { refusal = wroteNumber Short; bytes = 0 }
-
--- A refusal's answer: its number only.
-abbrev pub not-written : ℕ → WroteMap
-not-written n = record { refusal = n; bytes = 0 }
-
--- What the second part asks: where nothing is refused so far, a map within the limits and a sheet of its size.
-abbrev pub MayWrite : ℕ → ℕ → ℕ → List ℕ → Type 0
-MayWrite n w h sheet = n ≡ success → Asked w h sheet
-
--- The second part of writing, after a first part that gave n. `count` markers are stamped on the sheet: fewer marks than markers mean that two share a
--- crossing.
-pub data WriteRest (n count w h : ℕ) (sheet out after : List ℕ) (r : WroteMap) : Type 0 where
-  refused : ¬ (n ≡ success) → r ≡ not-written n → after ≡ out → WriteRest n count w h sheet out after r
-  shared : n ≡ success → ¬ (marks sheet ≡ count) → r ≡ not-written shared-crossing → after ≡ out → WriteRest n count w h sheet out after r
-  written : (answer : Wrote) → n ≡ success → marks sheet ≡ count → Writes w h sheet out after answer → r ≡ wroteMap answer
-      → WriteRest n count w h sheet out after r
-
--- Document 01's values for each answer of the reader.
-abbrev pub readMap : Reading → ReadMap
-readMap (Map w h count) = record { refusal = readNumber (Map w h count); width = w; height = h; count = count }
-readMap (Refused n) = record { refusal = readNumber (Refused n); width = 0; height = 0; count = 0 }
-
--- What the first part of reading asks: three slices of one length, with a slot for as many markers as may be in use.
-pub record MarkerRoom (ids xs ys : List ℕ) : Type 0 where
-  pub parallel : Parallel ids xs ys
-  pub most : most-markers ≤ length ids
-
--- A map whose rocks find a slot each in a list of `lent` slots: their markers stand in the first of these.
-pub record Found (file : List ℕ) (lent w h count : ℕ) (markers : List Marker) : Type 0 where
-  pub bits : List ℕ
-  pub map : MapFile file w h bits
-  pub counted : count ≡ length (markersOf w h bits)
-  pub within : count ≤ lent
-  pub few : count ≤ most-markers
-  pub slots : take count markers ≡ markersOf w h bits
-
--- The first part of reading: the refusal of the file, or of its rocks where they find no slot, or the map.
-pub data ReadFirst (file : List ℕ) (lent : ℕ) (markers : List Marker) (r : ReadMap) : Type 0 where
-  refused : (n : ℕ) → FileFault file n ⊎ (NoSlot file lent × (n ≡ no-slot)) → r ≡ readMap (Refused n) → ReadFirst file lent markers r
-  found : (w h count : ℕ) → Found file lent w h count markers → r ≡ readMap (Map w h count) → ReadFirst file lent markers r
-
--- And the slices are of one length still.
-pub record ReadsMarkers (file : List ℕ) (lent : ℕ) (ids xs ys : List ℕ) (r : ReadMap) : Type 0 where
-  pub parallel : Parallel ids xs ys
-  pub first : ReadFirst file lent (listOf ids xs ys) r
-
--- What the second part asks: as many markers in the slices and as many slots in the list.
+-- What it asks: as many markers in the slices and as many slots in the list.
 pub record MayPut (list : List Marker) (count : ℕ) (ids xs ys : List ℕ) : Type 0 where
   pub parallel : Parallel ids xs ys
   pub had : count ≤ length ids

@@ -1,22 +1,4 @@
--- The public calls: their refusals, and one promise a call.
-pub mod Rules
-pub mod RuleLaws
-pub mod Calls
-pub mod OutcomeLaws
-pub mod Exactly
-pub mod Outcome
-pub mod Sequences
-pub mod ListCalls
-pub mod HopCalls
-pub mod LabelCalls
-pub mod DriveCalls
-pub mod RouteCalls
-pub mod Agree
-pub mod Unread
-pub mod Demands
-pub mod Sharing
-pub mod RoundLaws
-pub mod RoundTrip
+-- What the parts of the public calls promise, and the way from them to the calls' promises.
 pub mod Prepared
 pub mod Files
 pub mod Writing

@@ -8,8 +8,8 @@ use lib.ListN.{length}
 use Rattle.field.specs.declared.Marker.{Marker}
 use Rattle.field.specs.Refusals.{bad-sheet}
 use Rattle.records.specs.Promise.{StampedWith}
-use Rattle.layer.specs.Rules
-use Rattle.layer.specs.Rules.{Rule, Gives, rule}
+use Rattle.calls.specs.Rules
+use Rattle.calls.specs.Rules.{Rule, Gives, rule}
 
 -- The rows before anything is written. `others` tells whether every other lent sheet has width × height bytes. A call that asks for one place names it
 -- twice, and a call that asks for none names (0, 0), which is on every map.

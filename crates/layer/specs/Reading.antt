@@ -16,40 +16,11 @@ use Rattle.markers.specs.List.{slot}
 use Rattle.markers.specs.Promise.{listOf}
 use Rattle.mapfile.specs.File.{markersOf, FileFault, NoSlot}
 use Rattle.mapfile.specs.FileLaws.{map-file-one}
-use Rattle.reader.specs.Promise.{Taken, Turned}
-use Rattle.layer.specs.Exactly.{fault-number}
-use Rattle.layer.specs.Files.{Found, ReadFirst, refused, found, ReadsMarkers, MayPut, putIn}
-use Rattle.layer.specs.Calls.{ReadCall}
-use Rattle.layer.specs.declared.ReadMap.{ReadMap}
-
--- What the reader promises over its own slices, told of the list lent.
-module _ {file : List ℕ} {list after : List Marker} {lent : ℕ} where
-  pub taken-found : {w h count : ℕ} → Taken file list w h count after → count ≤ lent → Found file lent w h count after
-  taken-found {w} {h} {count} t l =
-      record {
-        bits = t .bits;
-        map = t .map;
-        counted = t .counted;
-        within = l;
-        few = t .few;
-        slots = ap (take count) (t .slots) ∙ take-at (markersOf w h (t .bits)) (drop count list) count (sym (t .counted));
-      }
-
-  pub taken-full : {w h count : ℕ} → Taken file list w h count after → lent < count → NoSlot file lent
-  taken-full {w} {h} {count} t l = record { w = w; h = h; bits = t .bits; map = t .map; many = inl (omega (arith, t .counted)) }
-
-  -- The reader's slices have room for as many markers as may be in use: rocks that find no slot there find none anywhere.
-  pub turned-refused : {n : ℕ} → most-markers ≤ length list → Turned file list n after → FileFault file n ⊎ (NoSlot file lent × (n ≡ no-slot))
-  turned-refused {n} l t = go (t .fault)
-    where
-      most : (s : NoSlot file (length list)) → (length list < length (markersOf (s .w) (s .h) (s .bits))) ⊎ (most-markers < length (markersOf (s .w) (s .h) (s .bits)))
-          → most-markers < length (markersOf (s .w) (s .h) (s .bits))
-      most s (inl m) = omega arith
-      most s (inr m) = m
-
-      go : FileFault file n ⊎ (NoSlot file (length list) × (n ≡ no-slot)) → FileFault file n ⊎ (NoSlot file lent × (n ≡ no-slot))
-      go (inl f) = inl f
-      go (inr (s, e)) = inr (record { w = s .w; h = s .h; bits = s .bits; map = s .map; many = inr (most s (s .many)) }, e)
+use Rattle.calls.specs.Exactly.{fault-number}
+use Rattle.exchange.specs.Promise.{ReadFirst, refused, found, ReadsMarkers}
+use Rattle.layer.specs.Files.{MayPut, putIn}
+use Rattle.calls.specs.Calls.{ReadCall}
+use Rattle.exchange.specs.declared.ReadMap.{ReadMap}
 
 -- Putting changes no length, and one marker more is put by one store.
 pub put-length : (list markers : List Marker) (k : ℕ) → k ≤ length list → k ≤ length markers → length (putIn list k markers) ≡ length list

@@ -20,14 +20,14 @@ use Rattle.mapfile.specs.WrittenLaws.{written-one}
 use Rattle.writer.specs.Promise.{Asked, Writes}
 use Rattle.writer.specs.declared.Wrote.{Wrote}
 use Rattle.writer.specs.declared.Wrote.the-variants.{Bytes, Short}
-use Rattle.layer.specs.Rules
-use Rattle.layer.specs.Rules.{Gives, RocksOf}
-use Rattle.layer.specs.RuleLaws.{sides-hold, formed-holds}
+use Rattle.calls.specs.Rules
+use Rattle.calls.specs.Rules.{Gives, RocksOf}
+use Rattle.calls.specs.RuleLaws.{sides-hold, formed-holds}
 use Rattle.layer.specs.Prepared.{asking-found, Prepared}
-use Rattle.layer.specs.Sharing.{marks-apart, marks-shared}
-use Rattle.layer.specs.Files.{Area, MayWrite, wroteMap, not-written, WriteRest, refused, shared, written}
-use Rattle.layer.specs.Calls.{WriteCall}
-use Rattle.layer.specs.declared.WroteMap.{WroteMap}
+use Rattle.calls.specs.Sharing.{marks-apart, marks-shared}
+use Rattle.exchange.specs.Promise.{Area, MayWrite, wroteMap, not-written, WriteRest, refused, shared, written}
+use Rattle.calls.specs.Calls.{WriteCall}
+use Rattle.exchange.specs.declared.WroteMap.{WroteMap}
 
 -- What is written depends only on which crossings of the map are rocks.
 pub written-moved : {w h : ℕ} {R S : ℕ → ℕ → Type 0} {file : List ℕ} → ((x y : ℕ) → On w h x y → (R x y ↔ S x y)) → Written w h R file → Written w h S file

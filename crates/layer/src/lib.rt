@@ -7,33 +7,11 @@ use askings::Drove;
 use askings::Four;
 use askings::Homeward;
 use askings::Labelling;
+use calls::Counted;
 use field::Marker;
-ghost use Rattle.layer.specs.Rules.{Gives};
-ghost use Rattle.layer.specs.Calls.{EnterCall, ClearCall, LabelCall, DistancesCall, MeasureCall, AssuredCall, HopCall, RegionCall, DriveCall};
+ghost use Rattle.calls.specs.Rules.{Gives};
+ghost use Rattle.calls.specs.Calls.{EnterCall, ClearCall, LabelCall, DistancesCall, MeasureCall, AssuredCall, HopCall, RegionCall, DriveCall};
 ghost use Rattle.layer.specs.Prepared.{Prepared, found-table};
-
-// The new count of a list, or the refusal.
-#[repr(C)]
-pub struct Counted {
-    pub refusal: u8,
-    pub count: usize,
-}
-
-// Width, height and number of markers of a map that was read, or the refusal.
-#[repr(C)]
-pub struct ReadMap {
-    pub refusal: u8,
-    pub width: usize,
-    pub height: usize,
-    pub count: usize,
-}
-
-// How many bytes were written, or the refusal.
-#[repr(C)]
-pub struct WroteMap {
-    pub refusal: u8,
-    pub bytes: usize,
-}
 
 // What is found of the map, the list and an id: refusal 1 or 3, or the id in use, 5, or not in use, 6.
 fn seek(list: &[Marker], count: usize, w: usize, h: usize, id: u16) -> u8

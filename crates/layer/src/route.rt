@@ -2,7 +2,7 @@
 // this call is for Rattle alone; `bodkin_drive` makes the same drive, and answers how many crossings it has.
 use super::prepare;
 use field::Marker;
-ghost use Rattle.layer.specs.Calls.{RouteCall};
+ghost use Rattle.calls.specs.Calls.{RouteCall};
 
 // A shortest drive from (sx, sy) to (dx, dy), drawn from the lent state, handed back as the leading part of the lent route: s first and d last, and
 // on a refusal empty. The number, 0 on success or 1, 2, 3, 4, 8, 9 or 10, goes out through `refusal`.

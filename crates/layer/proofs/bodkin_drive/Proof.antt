@@ -52,7 +52,7 @@ use Rattle.walks.specs.Meeting.{Promised, asked-nothing, meets}
 use Rattle.walks.specs.Handing.{takes, hands, hears, ends-with}
 use Rattle.walks.specs.Returning.{returns-call}
 use Rattle.judging.specs.Judging.{Fits}
-use Rattle.layer.specs.Calls.{DriveCall}
+use Rattle.calls.specs.Calls.{DriveCall}
 use Rattle.layer.proofs.Asking.{PrepareC, prepares, parts-tokens, joins-tokens, retold}
 use Rattle.layer.proofs.DriveAnswers.{drive-may, drive-joined}
 use Rattle.judging.proofs.fits as fits

@@ -52,13 +52,13 @@ use Rattle.walks.specs.Slots.{mach, marker-typed}
 use Rattle.walks.specs.Lending.{sliceAt, mutOwn, lends, takes-back, shows-on, has-shown, says-last}
 use Rattle.walks.specs.Meeting.{Promised, asked-nothing, meets}
 use Rattle.walks.specs.Handing.{takes, hands, hears, ends-with}
-use Rattle.layer.specs.Rules
-use Rattle.layer.specs.Rules.{Gives}
+use Rattle.calls.specs.Rules
+use Rattle.calls.specs.Rules.{Gives}
 use Rattle.judging.specs.Judging.{enter-judged}
 use Rattle.layer.specs.Prepared.{found-table}
-use Rattle.layer.specs.Calls.{EnterCall}
-use Rattle.layer.proofs.Counted as R
-use Rattle.layer.proofs.Counted.Laws as R′
+use Rattle.calls.specs.Calls.{EnterCall}
+use Rattle.calls.proofs.Counted as R
+use Rattle.calls.proofs.Counted.Laws as R′
 use Rattle.judging.proofs.Told.{is-zero, not-zero}
 use Rattle.layer.proofs.Seeking.{enter-gives}
 use Rattle.layer.proofs.Listing.{counted, counted-value, IsCounted, counted-is, counted-typed, enter-refused, enter-fits, enter-may, enter-done}

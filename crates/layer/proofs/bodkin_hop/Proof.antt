@@ -48,7 +48,7 @@ use Rattle.walks.specs.Lending.{sliceAt}
 use Rattle.walks.specs.Meeting.{Promised, asked-nothing, meets}
 use Rattle.walks.specs.Handing.{takes, hears, ends-with}
 use Rattle.walks.specs.Returning.{returns-call}
-use Rattle.layer.specs.Calls.{HopCall}
+use Rattle.calls.specs.Calls.{HopCall}
 use Rattle.layer.proofs.Asking.{PrepareC, prepares, parts-tokens, joins-tokens, retold}
 use Rattle.layer.proofs.LabelAnswers.{ends-may}
 use Rattle.layer.proofs.DriveAnswers.{hop-joined}

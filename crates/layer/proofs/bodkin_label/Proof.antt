@@ -49,7 +49,7 @@ use Rattle.walks.specs.Lending.{sliceAt}
 use Rattle.walks.specs.Meeting.{Promised, asked-nothing, meets}
 use Rattle.walks.specs.Handing.{takes, hears, ends-with}
 use Rattle.walks.specs.Returning.{returns-call}
-use Rattle.layer.specs.Calls.{LabelCall}
+use Rattle.calls.specs.Calls.{LabelCall}
 use Rattle.layer.proofs.Asking.{PrepareC, prepares, parts-tokens, joins-tokens, retold}
 use Rattle.layer.proofs.LabelAnswers.{label-may, label-joined}
 use Rattle.layer.proofs.prepare as prepare

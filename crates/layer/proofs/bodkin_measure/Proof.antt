@@ -49,7 +49,7 @@ use Rattle.walks.specs.Meeting.{Promised, asked-nothing, meets}
 use Rattle.walks.specs.Handing.{takes, hands, hears, ends-with}
 use Rattle.walks.specs.Returning.{returns-call}
 use Rattle.judging.specs.Judging.{FourFit}
-use Rattle.layer.specs.Calls.{MeasureCall}
+use Rattle.calls.specs.Calls.{MeasureCall}
 use Rattle.layer.proofs.Asking.{PrepareC, prepares, parts-tokens, joins-tokens, retold}
 use Rattle.layer.proofs.LabelAnswers.{measure-may, measure-joined}
 use Rattle.judging.proofs.four_fit as fits

@@ -53,7 +53,7 @@ use Rattle.walks.specs.Calls.{called}
 use Rattle.walks.specs.Lending.{sliceAt, mutOwn, lends, takes-back, says-last, doubles}
 use Rattle.walks.specs.Meeting.{Promised, asked-nothing, meets}
 use Rattle.walks.specs.Handing.{takes, hands, hears, ends-with}
-use Rattle.layer.specs.Rules.{Gives}
+use Rattle.calls.specs.Rules.{Gives}
 use Rattle.judging.specs.Judging.{asking-judged}
 use Rattle.layer.specs.Prepared.{Prepared, asking-found}
 use Rattle.layer.proofs.Tables.{asking-gives, asking-good}

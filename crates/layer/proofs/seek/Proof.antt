@@ -57,7 +57,7 @@ use Rattle.walks.specs.Slots.{mach, marker-typed, looks-into, reads-lent}
 use Rattle.walks.specs.Lending.{sliceAt, doubles}
 use Rattle.walks.specs.Meeting.{Promised, asked-nothing, meets}
 use Rattle.walks.specs.Handing.{takes, hands, ends-with}
-use Rattle.layer.specs.Rules.{Gives}
+use Rattle.calls.specs.Rules.{Gives}
 use Rattle.judging.specs.Judging.{list-judged, FoundAt}
 use Rattle.layer.specs.Prepared.{found-table}
 use Rattle.layer.proofs.Tables.{list-gives, list-good}

@@ -48,16 +48,17 @@ use Rattle.walks.specs.Handing.{hands, ends-with}
 use Rattle.walks.specs.Lending.{sliceAt, lastly, Known, lends-row, row-back, shows-row, row-shown}
 use Rattle.walks.specs.Arrays.{lit-big, zeros, zeros-length, makes-array, room-again}
 use Rattle.walks.specs.Meeting.{Promised, asked-nothing, meets}
-use Rattle.layer.specs.declared.ReadMap.{ReadMap}
-use Rattle.layer.specs.Files.{MarkerRoom, ReadsMarkers, putIn}
-use Rattle.layer.specs.Calls.{ReadCall}
+use Rattle.exchange.specs.declared.ReadMap.{ReadMap}
+use Rattle.exchange.specs.Promise.{MarkerRoom, ReadsMarkers}
+use Rattle.layer.specs.Files.{putIn}
+use Rattle.calls.specs.Calls.{ReadCall}
 use Rattle.layer.specs.Reading.{may-put, read-call}
-use Rattle.layer.proofs.ReadMap as TR
-use Rattle.layer.proofs.ReadMap.Laws as TR′
-use Rattle.layer.proofs.files.read_markers as first
-use Rattle.layer.proofs.files.read_markers.Symbol as first-def
-use Rattle.layer.proofs.files.read_markers.Symbol.{name as #first}
-use Rattle.layer.proofs.files.read_markers.Met as first-thm
+use Rattle.exchange.proofs.ReadMap as TR
+use Rattle.exchange.proofs.ReadMap.Laws as TR′
+use Rattle.exchange.proofs.read_markers as first
+use Rattle.exchange.proofs.read_markers.Symbol as first-def
+use Rattle.exchange.proofs.read_markers.Symbol.{name as #first}
+use Rattle.exchange.proofs.read_markers.Met as first-thm
 use Rattle.layer.proofs.files.put as put
 use Rattle.layer.proofs.files.put.Symbol as put-def
 use Rattle.layer.proofs.files.put.Symbol.{name as #put}
@@ -236,5 +237,5 @@ bodkin-read-spec 𝓤 H 𝓜 𝓖 𝓡 =
     entered 𝓤 H (tripleOf 𝓤 H (𝓖 .A) this.signature (this.spec 𝓤 H (𝓖 .A) (𝓜 .mem) (𝓡 .run))) (tables 𝓤 H 𝓜 𝓡 code.env .C) (tables 𝓤 H 𝓜 𝓡 code.env .Λ)
     #this code.function (code.unfolded 𝓤 H 𝓜 𝓡)
     (read-meets 𝓤 H (𝓖 .A) (givenOf 𝓤 H 𝓜 𝓖) (𝓜 .mem) (𝓡 .run) (tablesOf 𝓤 H 𝓜 (tables 𝓤 H 𝓜 𝓡 code.env))
-    (cited 𝓤 H (Promised 𝓤 H (𝓖 .A) first.ended (first.clauses 𝓤 H (𝓖 .A) (𝓜 .mem) (𝓡 .run))) 𝓜 𝓡 code.env #first first-def.routine code.calls-layer·files·read-markers (first-thm.met 𝓤 H 𝓜 𝓖 𝓡))
+    (cited 𝓤 H (Promised 𝓤 H (𝓖 .A) first.ended (first.clauses 𝓤 H (𝓖 .A) (𝓜 .mem) (𝓡 .run))) 𝓜 𝓡 code.env #first first-def.routine code.calls-exchange·read-markers (first-thm.met 𝓤 H 𝓜 𝓖 𝓡))
     (cited 𝓤 H (Promised 𝓤 H (𝓖 .A) put.ended (put.clauses 𝓤 H (𝓖 .A) (𝓜 .mem) (𝓡 .run))) 𝓜 𝓡 code.env #put put-def.routine code.calls-layer·files·put (put-thm.met 𝓤 H 𝓜 𝓖 𝓡)))

@@ -47,25 +47,25 @@ use Rattle.walks.specs.Handing.{hands, ends-with}
 use Rattle.walks.specs.Lending.{sliceAt, lastly, Known, lends-row, row-back, shows-row, row-shown}
 use Rattle.walks.specs.Arrays.{zeros, zeros-length, makes-array, room-again, parts, joins}
 use Rattle.walks.specs.Meeting.{Promised, asked-nothing, meets}
-use Rattle.layer.specs.declared.WroteMap.{WroteMap}
+use Rattle.exchange.specs.declared.WroteMap.{WroteMap}
 use Rattle.layer.specs.Prepared.{Prepared}
-use Rattle.layer.specs.Files.{Area, WriteRest}
-use Rattle.layer.specs.Calls.{WriteCall}
+use Rattle.exchange.specs.Promise.{Area, WriteRest}
+use Rattle.calls.specs.Calls.{WriteCall}
 use Rattle.layer.specs.Writing.{may-write, write-call}
-use Rattle.layer.proofs.WroteMap as TW
-use Rattle.layer.proofs.WroteMap.Laws as TW′
-use Rattle.layer.proofs.files.area as area
-use Rattle.layer.proofs.files.area.Symbol as area-def
-use Rattle.layer.proofs.files.area.Symbol.{name as #area}
-use Rattle.layer.proofs.files.area.Met as area-thm
+use Rattle.exchange.proofs.WroteMap as TW
+use Rattle.exchange.proofs.WroteMap.Laws as TW′
+use Rattle.exchange.proofs.area as area
+use Rattle.exchange.proofs.area.Symbol as area-def
+use Rattle.exchange.proofs.area.Symbol.{name as #area}
+use Rattle.exchange.proofs.area.Met as area-thm
 use Rattle.layer.proofs.prepare as prepare
 use Rattle.layer.proofs.prepare.Symbol as prepare-def
 use Rattle.layer.proofs.prepare.Symbol.{name as #prepare}
 use Rattle.layer.proofs.prepare.Met as prepare-thm
-use Rattle.layer.proofs.files.write_stamped as rest
-use Rattle.layer.proofs.files.write_stamped.Symbol as rest-def
-use Rattle.layer.proofs.files.write_stamped.Symbol.{name as #rest}
-use Rattle.layer.proofs.files.write_stamped.Met as rest-thm
+use Rattle.exchange.proofs.write_stamped as rest
+use Rattle.exchange.proofs.write_stamped.Symbol as rest-def
+use Rattle.exchange.proofs.write_stamped.Symbol.{name as #rest}
+use Rattle.exchange.proofs.write_stamped.Met as rest-thm
 use Rattle.layer.proofs.files.bodkin_write.Key.{name as #this}
 use Rattle.layer.proofs.files.bodkin_write as this
 use Rattle.layer.proofs.files.bodkin_write.Statement as stated
@@ -271,6 +271,6 @@ bodkin-write-spec 𝓤 H 𝓜 𝓖 𝓡 =
     entered 𝓤 H (tripleOf 𝓤 H (𝓖 .A) this.signature (this.spec 𝓤 H (𝓖 .A) (𝓜 .mem) (𝓡 .run))) (tables 𝓤 H 𝓜 𝓡 code.env .C) (tables 𝓤 H 𝓜 𝓡 code.env .Λ)
     #this code.function (code.unfolded 𝓤 H 𝓜 𝓡)
     (write-meets 𝓤 H (𝓖 .A) (givenOf 𝓤 H 𝓜 𝓖) (𝓜 .mem) (𝓡 .run) (tablesOf 𝓤 H 𝓜 (tables 𝓤 H 𝓜 𝓡 code.env))
-    (cited 𝓤 H (Promised 𝓤 H (𝓖 .A) area.ended (area.clauses 𝓤 H (𝓖 .A) (𝓜 .mem) (𝓡 .run))) 𝓜 𝓡 code.env #area area-def.routine code.calls-layer·files·area (area-thm.met 𝓤 H 𝓜 𝓖 𝓡))
+    (cited 𝓤 H (Promised 𝓤 H (𝓖 .A) area.ended (area.clauses 𝓤 H (𝓖 .A) (𝓜 .mem) (𝓡 .run))) 𝓜 𝓡 code.env #area area-def.routine code.calls-exchange·area (area-thm.met 𝓤 H 𝓜 𝓖 𝓡))
     (cited 𝓤 H (Promised 𝓤 H (𝓖 .A) prepare.ended (prepare.clauses 𝓤 H (𝓖 .A) (𝓜 .mem) (𝓡 .run))) 𝓜 𝓡 code.env #prepare prepare-def.routine code.calls-layer·prepare (prepare-thm.met 𝓤 H 𝓜 𝓖 𝓡))
-    (cited 𝓤 H (Promised 𝓤 H (𝓖 .A) rest.ended (rest.clauses 𝓤 H (𝓖 .A) (𝓜 .mem) (𝓡 .run))) 𝓜 𝓡 code.env #rest rest-def.routine code.calls-layer·files·write-stamped (rest-thm.met 𝓤 H 𝓜 𝓖 𝓡)))
+    (cited 𝓤 H (Promised 𝓤 H (𝓖 .A) rest.ended (rest.clauses 𝓤 H (𝓖 .A) (𝓜 .mem) (𝓡 .run))) 𝓜 𝓡 code.env #rest rest-def.routine code.calls-exchange·write-stamped (rest-thm.met 𝓤 H 𝓜 𝓖 𝓡)))

@@ -51,10 +51,10 @@ use Rattle.walks.specs.Lending.{sliceAt, shrOwn, lastly, Known, opened, opens, 
 use Rattle.walks.specs.Meeting.{Promised, meets}
 use Rattle.layer.specs.Files.{MayPut, putIn}
 use Rattle.layer.specs.Reading.{put-length, put-more}
-use Rattle.layer.proofs.files.marker_at as at
-use Rattle.layer.proofs.files.marker_at.Symbol as at-def
-use Rattle.layer.proofs.files.marker_at.Symbol.{name as #at}
-use Rattle.layer.proofs.files.marker_at.Met as at-thm
+use Rattle.exchange.proofs.marker_at as at
+use Rattle.exchange.proofs.marker_at.Symbol as at-def
+use Rattle.exchange.proofs.marker_at.Symbol.{name as #at}
+use Rattle.exchange.proofs.marker_at.Met as at-thm
 use Rattle.layer.proofs.files.put.Key.{name as #this}
 use Rattle.layer.proofs.files.put as this
 use Rattle.layer.proofs.files.put.Statement as stated
@@ -232,4 +232,4 @@ put-spec 𝓤 H 𝓜 𝓖 𝓡 =
     entered 𝓤 H (tripleOf 𝓤 H (𝓖 .A) this.signature (this.spec 𝓤 H (𝓖 .A) (𝓜 .mem) (𝓡 .run))) (tables 𝓤 H 𝓜 𝓡 code.env .C) (tables 𝓤 H 𝓜 𝓡 code.env .Λ)
     #this code.function (code.unfolded 𝓤 H 𝓜 𝓡)
     (put-meets 𝓤 H (𝓖 .A) (givenOf 𝓤 H 𝓜 𝓖) (𝓜 .mem) (𝓡 .run) (tablesOf 𝓤 H 𝓜 (tables 𝓤 H 𝓜 𝓡 code.env))
-    (cited 𝓤 H (Promised 𝓤 H (𝓖 .A) at.ended (at.clauses 𝓤 H (𝓖 .A) (𝓜 .mem) (𝓡 .run))) 𝓜 𝓡 code.env #at at-def.routine code.calls-layer·files·marker-at (at-thm.met 𝓤 H 𝓜 𝓖 𝓡)))
+    (cited 𝓤 H (Promised 𝓤 H (𝓖 .A) at.ended (at.clauses 𝓤 H (𝓖 .A) (𝓜 .mem) (𝓡 .run))) 𝓜 𝓡 code.env #at at-def.routine code.calls-exchange·marker-at (at-thm.met 𝓤 H 𝓜 𝓖 𝓡)))

@@ -47,7 +47,7 @@ use Rattle.walks.specs.Meeting.{Promised, asked-nothing, meets}
 use Rattle.walks.specs.Handing.{takes, hands, hears, ends-owning}
 use Rattle.walks.specs.Returning.{returns-owned}
 use Rattle.judging.specs.Judging.{Fits}
-use Rattle.layer.specs.Calls.{RouteCall}
+use Rattle.calls.specs.Calls.{RouteCall}
 use Rattle.layer.proofs.Asking.{PrepareC, prepares, parts-tokens, joins-tokens, retold}
 use Rattle.layer.proofs.DriveAnswers.{drive-may, route-joined}
 use Rattle.judging.proofs.fits as fits

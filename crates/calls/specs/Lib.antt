@@ -1,0 +1,19 @@
+-- The public calls: their refusals, one promise a call, and what is proved of the promises.
+pub mod Rules
+pub mod RuleLaws
+pub mod Calls
+pub mod OutcomeLaws
+pub mod Exactly
+pub mod Outcome
+pub mod Sequences
+pub mod ListCalls
+pub mod HopCalls
+pub mod LabelCalls
+pub mod DriveCalls
+pub mod RouteCalls
+pub mod Agree
+pub mod Unread
+pub mod Demands
+pub mod Sharing
+pub mod RoundLaws
+pub mod RoundTrip

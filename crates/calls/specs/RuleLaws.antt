@@ -1,0 +1,106 @@
+-- Laws of refusals. A call's table has its rows in the order of their numbers, from 1 on: so 0 is given exactly where no row applies, and a number
+-- exactly where its row applies and no row before it does.
+use mathlib.Core.Path.{_≡_}
+use mathlib.Core.List.{List, [], _∷_}
+use mathlib.Core.Logic.{_↔_, _⊎_, inl, inr}
+use Prim.Native.Nat.{ℕ, _*_, _<_, _≤_}
+use native.Mathlib.Omega.{arith}
+use native.Mathlib.Decide.{decLe, decLt}
+use lib.ListN.{length}
+use Rattle.field.specs.declared.Marker.{Marker}
+use Rattle.field.specs.Map.{Sides, On}
+use Rattle.markers.specs.List.{WellFormed}
+use Rattle.calls.specs.Rules.{Rule, Gives, Misfit}
+
+-- No row applies.
+abbrev pub None : List Rule → Type 0
+None [] = Unit {0}
+None (r ∷ rs) = (¬ (r .applies)) × None rs
+
+-- The rows' numbers rise, all above m.
+abbrev pub Rises : ℕ → List Rule → Type 0
+Rises m [] = Unit {0}
+Rises m (r ∷ rs) = (m < r .number) × Rises (r .number) rs
+
+-- What is given is 0 or above m.
+gives-above : (rules : List Rule) (m n : ℕ) → Rises m rules → Gives rules n → (n ≡ 0) ⊎ (m < n)
+gives-above [] m n u g = inl g
+gives-above (r ∷ rs) m n u (inl p) = inr (omega (arith, u .0, p .1))
+gives-above (r ∷ rs) m n u (inr p) = go (gives-above rs (r .number) n (u .1) (p .1))
+  where
+    go : (n ≡ 0) ⊎ (r .number < n) → (n ≡ 0) ⊎ (m < n)
+    go (inl e) = inl e
+    go (inr l) = inr (omega (arith, u .0))
+
+-- 0 is given exactly where no row applies.
+pub none-gives : (rules : List Rule) (n : ℕ) → n ≡ 0 → None rules → Gives rules n
+none-gives [] n e f = e
+none-gives (r ∷ rs) n e f = inr (f .0, none-gives rs n e (f .1))
+
+pub gives-none : (rules : List Rule) (m n : ℕ) → Rises m rules → Gives rules n → n ≡ 0 → None rules
+gives-none [] m n u g e = tt
+gives-none (r ∷ rs) m n u (inl p) e = absurd (omega (arith, u .0, p .1))
+gives-none (r ∷ rs) m n u (inr p) e = (p .0, gives-none rs (r .number) n (u .1) (p .1) e)
+
+-- n is given exactly as the table says. Each row's number is given exactly where the row applies and no earlier one does; 0 exactly where no row
+-- applies. Earlier says that no earlier row applies.
+abbrev pub ExactlyAfter : Type 0 → List Rule → ℕ → Type 0
+ExactlyAfter Earlier [] n = (n ≡ 0) ↔ Earlier
+ExactlyAfter Earlier (r ∷ rs) n = ((n ≡ r .number) ↔ ((r .applies) × Earlier)) × ExactlyAfter (Earlier × (¬ (r .applies))) rs n
+
+abbrev pub Exactly : List Rule → ℕ → Type 0
+Exactly rules n = ExactlyAfter (Unit {0}) rules n
+
+-- So far: no earlier row applies, and these rows give n; or one does, and n is its number.
+exactly-after : (Earlier : Type 0) (rules : List Rule) (m n : ℕ) → Rises m rules
+    → (Earlier × Gives rules n) ⊎ ((¬ Earlier) × (1 ≤ n) × (n ≤ m)) → ExactlyAfter Earlier rules n
+exactly-after E [] m n u (inl p) = (λ z. p .0, λ z. p .1)
+exactly-after E [] m n u (inr p) = (λ z. absurd (omega (arith, p .1)), λ z. absurd (p .0 z))
+exactly-after E (r ∷ rs) m n u (inl (p, inl q)) =
+    ((λ z. (q .0, p), λ z. q .1), exactly-after (E × (¬ (r .applies))) rs (r .number) n (u .1) (inr (λ t. t .1 (q .0), omega (arith, u .0, q .1), omega (arith, q .1))))
+exactly-after E (r ∷ rs) m n u (inl (p, inr q)) =
+    ((λ z. absurd (other z (gives-above rs (r .number) n (u .1) (q .1))), λ z. absurd (q .0 (z .0))), exactly-after (E × (¬ (r .applies))) rs (r .number) n (u .1) (inl ((p, q .0), q .1)))
+  where
+    other : n ≡ r .number → (n ≡ 0) ⊎ (r .number < n) → ⊥
+    other e (inl z) = omega (arith, u .0)
+    other e (inr l) = omega arith
+exactly-after E (r ∷ rs) m n u (inr p) =
+    ((λ z. absurd (omega (arith, u .0, p .2)), λ z. absurd (p .0 (z .1))), exactly-after (E × (¬ (r .applies))) rs (r .number) n (u .1) (inr (λ t. p .0 (t .0), p .1, omega (arith, u .0, p .2))))
+
+pub exactly : (rules : List Rule) (n : ℕ) → Rises 0 rules → Gives rules n → Exactly rules n
+exactly rules n u g = exactly-after (Unit {0}) rules 0 n u (inl (tt, g))
+
+-- What can be told holds where it does not fail.
+pub holds : {P : Type 0} → Dec P → ¬ ¬ P → P
+holds (yes p) n = p
+holds (no q) n = absurd (n q)
+
+-- Sheets of the map's size pass row 2.
+pub sheets-fit : (w h : ℕ) (s : List ℕ) (ss : List (List ℕ)) → length s ≡ h * w → ¬ Misfit w h ss → ¬ Misfit w h (s ∷ ss)
+sheets-fit w h s ss e f (inl n) = n e
+sheets-fit w h s ss e f (inr n) = f n
+
+-- What a call may rely on where a row does not apply. 1: the map's size.
+pub sides-hold : {w h : ℕ} → ¬ ¬ Sides w h → Sides w h
+sides-hold {w} {h} n =
+    record {
+      some-w = holds (decLe _ _) (λ f. n (λ s. f (s .some-w)));
+      some-h = holds (decLe _ _) (λ f. n (λ s. f (s .some-h)));
+      most-w = holds (decLe _ _) (λ f. n (λ s. f (s .most-w)));
+      most-h = holds (decLe _ _) (λ f. n (λ s. f (s .most-h)));
+    }
+
+-- 4: a place.
+pub on-holds : {w h x y : ℕ} → ¬ ¬ On w h x y → On w h x y
+on-holds n = record { in-x = holds (decLt _ _) (λ f. n (λ o. f (o .in-x))); in-y = holds (decLt _ _) (λ f. n (λ o. f (o .in-y))) }
+
+-- 3: the list.
+pub formed-holds : {w h : ℕ} {list : List Marker} {count : ℕ} → ¬ ¬ WellFormed w h list count → WellFormed w h list count
+formed-holds {w} {h} {list} {count} n =
+    record {
+      few = holds (decLe _ _) (λ f. n (λ s. f (s .few)));
+      lent = holds (decLe _ _) (λ f. n (λ s. f (s .lent)));
+      some-id = λ k l. holds (decLe _ _) (λ f. n (λ s. f (s .some-id k l)));
+      on = λ k l. on-holds (λ f. n (λ s. f (s .on k l)));
+      rising = λ k l. holds (decLt _ _) (λ f. n (λ s. f (s .rising k l)));
+    }

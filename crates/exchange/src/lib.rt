@@ -1,0 +1,137 @@
+// The parts of the two map-file calls that need no list of records: writing from a sheet on which the rocks are stamped, and reading into slices of ids and
+// places.
+use field::Marker;
+use reader::Reading;
+use writer::Wrote;
+ghost use mathlib.Core.Path.{_≡_};
+ghost use Prim.Native.Nat.{_<_};
+ghost use lib.ListN.{length};
+ghost use Rattle.field.specs.Workings.MarkCount.{marks};
+ghost use Rattle.markers.specs.List.{slot};
+ghost use Rattle.markers.specs.Promise.{listOf, Parallel};
+ghost use Rattle.exchange.specs.Promise.{Area, MayWrite, WriteRest, MarkerRoom, ReadsMarkers};
+
+// "Width and height: 1 to 64 each."
+const SIDE: usize = 64;
+
+// Document 01's refusal numbers that are found here.
+const NO_SLOT: u8 = 7;
+
+const SHARED_CROSSING: u8 = 16;
+
+const SHORT_OUTPUT: u8 = 17;
+
+// Width, height and number of markers of a map that was read, or the refusal.
+#[repr(C)]
+pub struct ReadMap {
+    pub refusal: u8,
+    pub width: usize,
+    pub height: usize,
+    pub count: usize,
+}
+
+// How many bytes were written, or the refusal.
+#[repr(C)]
+pub struct WroteMap {
+    pub refusal: u8,
+    pub bytes: usize,
+}
+
+// How many crossings the map has. A size against the limits, which is refused, counts for none.
+pub fn area(w: usize, h: usize) -> usize
+    ensures { λ r. ⌜ Area w h r ⌝ }
+{
+    if SIDE < w {
+        return 0;
+    }
+    if SIDE < h {
+        return 0;
+    }
+    h * w
+}
+
+// How many crossings of a sheet are marked.
+fn count_marks(sheet: &[u8]) -> usize
+    ensures { λ r. ⌜ r ≡ marks (now (sheet .entry)) ⌝ }
+{
+    let mut n: usize = 0;
+    for i in 0..sheet.len() {
+        if sheet[i] != 0 {
+            n += 1;
+        }
+    }
+    n
+}
+
+// The second part of writing, over a sheet on which `count` markers are stamped. n is the refusal that was found before, or 0.
+pub fn write_stamped(n: u8, count: usize, w: usize, h: usize, sheet: &[u8], out: &mut [u8]) -> WroteMap
+    requires { ⌜ MayWrite n w h (now sheet) ⌝ }
+    ensures { λ r. ⌜ WriteRest n count w h (now (sheet .entry)) (now (out .entry)) (now (out .exit)) r ⌝ }
+{
+    if n != 0 {
+        return WroteMap {
+            refusal: n,
+            bytes: 0,
+        };
+    }
+    if count_marks(sheet) != count {
+        return WroteMap {
+            refusal: SHARED_CROSSING,
+            bytes: 0,
+        };
+    }
+    let wrote = writer::write(sheet, w, h, out);
+    match wrote {
+        Wrote::Bytes(bytes) => WroteMap { refusal: 0, bytes },
+        Wrote::Short => WroteMap {
+            refusal: SHORT_OUTPUT,
+            bytes: 0,
+        },
+    }
+}
+
+// The first part of reading: the file's markers, each field in a slice of its own, and the refusal, 12, 13, 1, 14, 15 or 7, or the map. `lent` is how
+// many slots the list has.
+pub fn read_markers(src: &[u8], lent: usize, ids: &mut [u16], xs: &mut [u16], ys: &mut [u16]) -> ReadMap
+    requires { ⌜ MarkerRoom (now ids) (now xs) (now ys) ⌝ }
+    ensures { λ r. ⌜ ReadsMarkers (now (src .entry)) lent (now (ids .exit)) (now (xs .exit)) (now (ys .exit)) r ⌝ }
+{
+    let reading = reader::read(src, ids, xs, ys);
+    match reading {
+        Reading::Map(width, height, count) => {
+            if lent < count {
+                return ReadMap {
+                    refusal: NO_SLOT,
+                    width: 0,
+                    height: 0,
+                    count: 0,
+                };
+            }
+            ReadMap {
+                refusal: 0,
+                width,
+                height,
+                count,
+            }
+        }
+        Reading::Refused(n) => ReadMap {
+            refusal: n,
+            width: 0,
+            height: 0,
+            count: 0,
+        },
+    }
+}
+
+// The k-th marker of three slices.
+pub fn marker_at(ids: &[u16], xs: &[u16], ys: &[u16], k: usize) -> Marker
+    requires { ⌜ (Parallel (now ids) (now xs) (now ys)) × (k < length (now ids)) ⌝ }
+    ensures { λ r. ⌜ r ≡ slot (listOf (now (ids .entry)) (now (xs .entry)) (now (ys .entry))) k ⌝ }
+{
+    Marker {
+        id: ids[k],
+        x: xs[k],
+        y: ys[k],
+    }
+}
+
