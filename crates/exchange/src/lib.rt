@@ -64,7 +64,14 @@ fn count_marks(sheet: &[u8]) -> usize
 }
 
 // The second part of writing, over a sheet on which `count` markers are stamped. n is the refusal that was found before, or 0.
-pub fn write_stamped(n: u8, count: usize, w: usize, h: usize, sheet: &[u8], out: &mut [u8]) -> WroteMap
+pub fn write_stamped(
+    n: u8,
+    count: usize,
+    w: usize,
+    h: usize,
+    sheet: &[u8],
+    out: &mut [u8],
+) -> WroteMap
     requires { ⌜ MayWrite n w h (now sheet) ⌝ }
     ensures { λ r. ⌜ WriteRest n count w h (now (sheet .entry)) (now (out .entry)) (now (out .exit)) r ⌝ }
 {
@@ -92,7 +99,13 @@ pub fn write_stamped(n: u8, count: usize, w: usize, h: usize, sheet: &[u8], out:
 
 // The first part of reading: the file's markers, each field in a slice of its own, and the refusal, 12, 13, 1, 14, 15 or 7, or the map. `lent` is how
 // many slots the list has.
-pub fn read_markers(src: &[u8], lent: usize, ids: &mut [u16], xs: &mut [u16], ys: &mut [u16]) -> ReadMap
+pub fn read_markers(
+    src: &[u8],
+    lent: usize,
+    ids: &mut [u16],
+    xs: &mut [u16],
+    ys: &mut [u16],
+) -> ReadMap
     requires { ⌜ MarkerRoom (now ids) (now xs) (now ys) ⌝ }
     ensures { λ r. ⌜ ReadsMarkers (now (src .entry)) lent (now (ids .exit)) (now (xs .exit)) (now (ys .exit)) r ⌝ }
 {
@@ -134,4 +147,3 @@ pub fn marker_at(ids: &[u16], xs: &[u16], ys: &[u16], k: usize) -> Marker
         y: ys[k],
     }
 }
-
