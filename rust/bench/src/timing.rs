@@ -8,10 +8,10 @@ use crate::room::Room;
 use std::time::Instant;
 
 /// Rounds of each side.
-const ROUNDS: usize = 40;
+const ROUNDS: usize = 200;
 
 /// A round makes so many calls that it lasts about so many nanoseconds.
-const ROUND: f64 = 100_000.0;
+const ROUND: f64 = 30_000.0;
 
 /// Nanoseconds a call, of the library and of plain Rust.
 pub fn both(call: Call, input: &Input) -> (f64, f64) {

@@ -7,69 +7,65 @@ const SOUTH: u8 = 4;
 const WEST: u8 = 5;
 const NORTH: u8 = 6;
 
-/// Crossings still to look around, each packed into one number.
-struct Stack {
-    slots: [u16; MOST_CROSSINGS],
-    height: usize,
+fn pack(x: usize, y: usize) -> u16 {
+    (y * 256 + x) as u16
 }
 
-impl Stack {
-    fn push(&mut self, x: usize, y: usize) {
-        self.slots[self.height] = (y * 256 + x) as u16;
-        self.height += 1;
-    }
-
-    fn pop(&mut self) -> Option<Place> {
-        self.height = self.height.checked_sub(1)?;
-        let v = self.slots[self.height] as usize;
-        Some((v % 256, v / 256))
-    }
-}
-
-/// Puts every rock on the stack.
-fn gather(sheet: &[u8], w: usize, stack: &mut Stack) {
+/// Puts every rock on the stack. Hands back its height, as `touch` does.
+fn gather(sheet: &[u8], w: usize, stack: &mut [u16; MOST_CROSSINGS]) -> usize {
+    let mut k = 0;
     for (y, row) in sheet.chunks_exact(w).enumerate() {
         for (x, &b) in row.iter().enumerate() {
             if b == ROCK {
-                stack.push(x, y);
+                stack[k] = pack(x, y);
+                k += 1;
             }
         }
     }
+    k
 }
 
 /// (x, y) has a closed neighbour in the direction that `note` tells: notes it, or shuts the crossing where another one was noted before.
-fn touch(sheet: &mut [u8], w: usize, x: usize, y: usize, note: u8, stack: &mut Stack) {
+fn touch(
+    sheet: &mut [u8],
+    w: usize,
+    x: usize,
+    y: usize,
+    note: u8,
+    stack: &mut [u16; MOST_CROSSINGS],
+    k: usize,
+) -> usize {
     let b = &mut sheet[y * w + x];
-    match *b {
-        OPEN => *b = note,
-        ROCK | SHUT => {}
-        seen if seen == note => {}
-        _ => {
-            *b = SHUT;
-            stack.push(x, y);
-        }
+    if *b == OPEN {
+        *b = note;
+        k
+    } else if *b <= SHUT || *b == note {
+        k
+    } else {
+        *b = SHUT;
+        stack[k] = pack(x, y);
+        k + 1
     }
 }
 
 /// Shuts every crossing of the smallest set that is no rock, and leaves notes at others.
 pub fn close(sheet: &mut [u8], w: usize, h: usize) {
-    let mut stack = Stack {
-        slots: [0; MOST_CROSSINGS],
-        height: 0,
-    };
-    gather(sheet, w, &mut stack);
-    while let Some((x, y)) = stack.pop() {
+    let mut stack = [0; MOST_CROSSINGS];
+    let mut k = gather(sheet, w, &mut stack);
+    while k > 0 {
+        k -= 1;
+        let (x, y) = (stack[k] as usize % 256, stack[k] as usize / 256);
         if x + 1 < w {
-            touch(sheet, w, x + 1, y, WEST, &mut stack);
+            k = touch(sheet, w, x + 1, y, WEST, &mut stack, k);
         }
         if y > 0 {
-            touch(sheet, w, x, y - 1, NORTH, &mut stack);
+            k = touch(sheet, w, x, y - 1, NORTH, &mut stack, k);
         }
         if x > 0 {
-            touch(sheet, w, x - 1, y, EAST, &mut stack);
+            k = touch(sheet, w, x - 1, y, EAST, &mut stack, k);
         }
         if y + 1 < h {
-            touch(sheet, w, x, y + 1, SOUTH, &mut stack);
+            k = touch(sheet, w, x, y + 1, SOUTH, &mut stack, k);
         }
     }
 }

@@ -19,12 +19,13 @@ pub fn well_formed(list: &[Marker], count: usize, w: usize, h: usize) -> bool {
 
 /// Enters a marker at its place by id, moving the later ones up one by one from the last down. Hands back the new count.
 pub fn enter(list: &mut [Marker], count: usize, m: Marker) -> usize {
+    let slots = &mut list[..=count];
     let mut k = count;
-    while k > 0 && list[k - 1].id >= m.id {
-        list[k] = list[k - 1];
+    while k > 0 && slots[k - 1].id >= m.id {
+        slots[k] = slots[k - 1];
         k -= 1;
     }
-    list[k] = m;
+    slots[k] = m;
     count + 1
 }
 

@@ -18,20 +18,21 @@ fn settle(sheet: &mut [u8], w: usize, h: usize) -> Labelling {
         groups: 0,
     };
     for y in 0..h {
+        let (before, rest) = sheet.split_at_mut(y * w);
+        let south = before.rchunks_exact(w).next();
+        let row = &mut rest[..w];
         for x in 0..w {
-            let i = y * w + x;
-            match sheet[i] {
+            match row[x] {
                 OPEN => continue,
                 ROCK => counts.rocks += 1,
                 SHUT => counts.shut += 1,
                 _ => {
-                    sheet[i] = OPEN;
+                    row[x] = OPEN;
                     continue;
                 }
             }
-            let west = x > 0 && sheet[i - 1] != OPEN;
-            let south = y > 0 && sheet[i - w] != OPEN;
-            if !west && !south {
+            let west_open = x == 0 || row[x - 1] == OPEN;
+            if west_open && south.is_none_or(|row| row[x] == OPEN) {
                 counts.groups += 1;
             }
         }
