@@ -103,13 +103,35 @@ fn again<A>(times: usize, mut call: impl FnMut() -> A) -> A {
 /// One side's call, so many times over the same input into the same room, and the last answer. The room holds what the last call left.
 #[inline(never)]
 pub fn repeat<L: Layer>(call: Call, input: &Input, room: &mut Room, times: usize) -> Answer {
-    let (list, n, side) = (black_box(&input.list[..]), input.list.len(), input.side);
-    let (w, h) = (black_box(side), black_box(side));
-    let labels = &mut room.labels;
-    let ((sx, sy), (dx, dy)) = black_box((input.s, input.d));
-    let ((hx, hy), (x, y)) = black_box((input.home, input.place));
+    let (list, n) = (black_box(&input.list[..]), input.list.len());
+    let (w, h) = black_box((input.side, input.side));
     match call {
-        Call::Label => Answer::Labelling(again(times, || L::label(list, n, w, h, labels))),
+        Call::Enter => enter_again::<L>(input, room, times),
+        Call::Clear => clear_again::<L>(input, room, times),
+        Call::ReadPlain => {
+            let read = || L::read(black_box(&input.text), &mut room.slots);
+            Answer::ReadMap(again(times, read))
+        }
+        Call::ReadRaw => {
+            let read = || L::read(black_box(&input.packed), &mut room.slots);
+            Answer::ReadMap(again(times, read))
+        }
+        Call::Write => {
+            let write = || L::write(list, n, w, h, &mut room.out);
+            Answer::WroteMap(again(times, write))
+        }
+        Call::Region | Call::Drive => drive_again::<L>(call, input, room, times),
+        _ => ask_again::<L>(call, input, room, times),
+    }
+}
+
+/// Labels, distances, assurance or hop.
+fn ask_again<L: Layer>(call: Call, input: &Input, room: &mut Room, times: usize) -> Answer {
+    let (list, n) = (black_box(&input.list[..]), input.list.len());
+    let (w, h) = black_box((input.side, input.side));
+    let ((hx, hy), (x, y)) = black_box((input.home, input.place));
+    let labels = &mut room.labels;
+    match call {
         Call::Measure => {
             let (east, south) = (&mut room.east, &mut room.south);
             let (west, north) = (&mut room.west, &mut room.north);
@@ -128,34 +150,26 @@ pub fn repeat<L: Layer>(call: Call, input: &Input, room: &mut Room, times: usize
             let hop = || L::hop(list, n, w, h, hx, hy, x, y, labels);
             Answer::Homeward(again(times, hop))
         }
-        Call::Region => {
-            let g = &mut room.region;
-            let region = || L::region(list, n, w, h, sx, sy, dx, dy, labels, g);
-            Answer::Refusal(again(times, region))
-        }
-        Call::Drive => {
-            let (g, route, z) = (&mut room.region, &mut room.route, &mut room.state);
-            let drive = || {
-                *z = STATE;
-                L::drive(list, n, w, h, sx, sy, dx, dy, labels, g, route, z)
-            };
-            Answer::Drove(again(times, drive))
-        }
-        Call::Enter => enter_again::<L>(input, room, times),
-        Call::Clear => clear_again::<L>(input, room, times),
-        Call::ReadPlain => {
-            let read = || L::read(black_box(&input.text), &mut room.slots);
-            Answer::ReadMap(again(times, read))
-        }
-        Call::ReadRaw => {
-            let read = || L::read(black_box(&input.packed), &mut room.slots);
-            Answer::ReadMap(again(times, read))
-        }
-        Call::Write => {
-            let write = || L::write(list, n, w, h, &mut room.out);
-            Answer::WroteMap(again(times, write))
-        }
+        _ => Answer::Labelling(again(times, || L::label(list, n, w, h, labels))),
     }
+}
+
+/// Region or drive. Each drive is made from the same state.
+fn drive_again<L: Layer>(call: Call, input: &Input, room: &mut Room, times: usize) -> Answer {
+    let (list, n) = (black_box(&input.list[..]), input.list.len());
+    let (w, h) = black_box((input.side, input.side));
+    let ((sx, sy), (dx, dy)) = black_box((input.s, input.d));
+    let (labels, g) = (&mut room.labels, &mut room.region);
+    if call == Call::Region {
+        let region = || L::region(list, n, w, h, sx, sy, dx, dy, labels, g);
+        return Answer::Refusal(again(times, region));
+    }
+    let (route, z) = (&mut room.route, &mut room.state);
+    let drive = || {
+        *z = STATE;
+        L::drive(list, n, w, h, sx, sy, dx, dy, labels, g, route, z)
+    };
+    Answer::Drove(again(times, drive))
 }
 
 /// Enters the map's first marker, before all others, into a list that it fills: every other marker moves.
