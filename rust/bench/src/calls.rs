@@ -1,0 +1,210 @@
+//! The calls that are measured, each made so many times over by one side.
+use crate::input::Input;
+use crate::layer::{Layer, Listing};
+use crate::room::{Room, Window};
+use grainbodkin_sys::{
+    Assurance, Counted, Drove, Four, Homeward, Labelling, Marker, ReadMap, WroteMap,
+};
+use std::hint::black_box;
+
+/// A call by its name. Reading stands twice, once for each format.
+#[derive(Clone, Copy, Debug, PartialEq, Eq)]
+pub enum Call {
+    Label,
+    Measure,
+    Distances,
+    Assured,
+    Hop,
+    Region,
+    Drive,
+    Enter,
+    Clear,
+    ReadPlain,
+    ReadRaw,
+    Write,
+}
+
+/// Every call with its name.
+pub const CALLS: [(&str, Call); 12] = [
+    ("label", Call::Label),
+    ("measure", Call::Measure),
+    ("distances", Call::Distances),
+    ("assured", Call::Assured),
+    ("hop", Call::Hop),
+    ("region", Call::Region),
+    ("drive", Call::Drive),
+    ("enter", Call::Enter),
+    ("clear", Call::Clear),
+    ("read-p1", Call::ReadPlain),
+    ("read-p4", Call::ReadRaw),
+    ("write", Call::Write),
+];
+
+impl Call {
+    pub fn named(name: &str) -> Option<Call> {
+        CALLS.iter().find(|c| c.0 == name).map(|c| c.1)
+    }
+
+    /// The maps over which the call is measured: sparse, dense, and those that are worst for it. The questions of which an end may be closed are asked
+    /// over `blocks` too, where much is closed and a drive is left.
+    pub fn maps(self) -> &'static [&'static str] {
+        match self {
+            Call::Label => &crate::maps::NAMES,
+            Call::Measure => &["empty", "sparse", "dense", "diagonal", "lattice-2"],
+            Call::Distances | Call::Assured | Call::Hop | Call::Region | Call::Drive => {
+                &["empty", "sparse", "dense", "blocks", "lattice-2"]
+            }
+            _ => &["sparse", "dense", "full"],
+        }
+    }
+}
+
+/// A call's answer.
+#[derive(Clone, Copy, Debug, PartialEq, Eq)]
+pub enum Answer {
+    Refusal(u8),
+    Labelling(Labelling),
+    Four(Four),
+    Assurance(Assurance),
+    Homeward(Homeward),
+    Drove(Drove),
+    Counted(Counted),
+    ReadMap(ReadMap),
+    WroteMap(WroteMap),
+}
+
+impl Answer {
+    pub fn refusal(&self) -> u8 {
+        match self {
+            Answer::Refusal(n) => *n,
+            Answer::Labelling(a) => a.refusal,
+            Answer::Four(a) => a.refusal,
+            Answer::Assurance(a) => a.refusal,
+            Answer::Homeward(a) => a.refusal,
+            Answer::Drove(a) => a.refusal,
+            Answer::Counted(a) => a.refusal,
+            Answer::ReadMap(a) => a.refusal,
+            Answer::WroteMap(a) => a.refusal,
+        }
+    }
+}
+
+/// The state of a drive before each call.
+const STATE: u32 = 20261115;
+
+/// Makes the call so many times, at least once, and hands back the last answer.
+fn again<A>(times: usize, mut call: impl FnMut() -> A) -> A {
+    for _ in 1..times {
+        black_box(call());
+    }
+    black_box(call())
+}
+
+/// One side's call, so many times over the same input into the same room, and the last answer. The room holds what the last call left.
+#[inline(never)]
+pub fn repeat<L: Layer>(call: Call, input: &Input, room: &mut Room, times: usize) -> Answer {
+    let (list, n) = (black_box(&input.list[..]), input.list.len());
+    let (w, h) = black_box((input.side, input.side));
+    match call {
+        Call::Enter => enter_again::<L>(input, room, times),
+        Call::Clear => clear_again::<L>(input, room, times),
+        Call::ReadPlain => {
+            let read = || L::read(black_box(&input.text), &mut room.slots);
+            Answer::ReadMap(again(times, read))
+        }
+        Call::ReadRaw => {
+            let read = || L::read(black_box(&input.packed), &mut room.slots);
+            Answer::ReadMap(again(times, read))
+        }
+        Call::Write => {
+            let write = || L::write(list, n, w, h, &mut room.out);
+            Answer::WroteMap(again(times, write))
+        }
+        Call::Region | Call::Drive => drive_again::<L>(call, input, room, times),
+        _ => ask_again::<L>(call, input, room, times),
+    }
+}
+
+/// Labels, distances, assurance or hop.
+fn ask_again<L: Layer>(call: Call, input: &Input, room: &mut Room, times: usize) -> Answer {
+    let (list, n) = (black_box(&input.list[..]), input.list.len());
+    let (w, h) = black_box((input.side, input.side));
+    let ((hx, hy), (x, y)) = black_box((input.home, input.place));
+    let labels = &mut room.labels;
+    match call {
+        Call::Measure => {
+            let (east, south) = (&mut room.east, &mut room.south);
+            let (west, north) = (&mut room.west, &mut room.north);
+            let measure = || L::measure(list, n, w, h, labels, east, south, west, north);
+            Answer::Refusal(again(times, measure))
+        }
+        Call::Distances => {
+            let distances = || L::distances(list, n, w, h, hx, hy, labels);
+            Answer::Four(again(times, distances))
+        }
+        Call::Assured => {
+            let assured = || L::assured(list, n, w, h, hx, hy, x, y, labels);
+            Answer::Assurance(again(times, assured))
+        }
+        Call::Hop => {
+            let hop = || L::hop(list, n, w, h, hx, hy, x, y, labels);
+            Answer::Homeward(again(times, hop))
+        }
+        _ => Answer::Labelling(again(times, || L::label(list, n, w, h, labels))),
+    }
+}
+
+/// Region or drive. Each drive is made from the same state.
+fn drive_again<L: Layer>(call: Call, input: &Input, room: &mut Room, times: usize) -> Answer {
+    let (list, n) = (black_box(&input.list[..]), input.list.len());
+    let (w, h) = black_box((input.side, input.side));
+    let ((sx, sy), (dx, dy)) = black_box((input.s, input.d));
+    let (labels, g) = (&mut room.labels, &mut room.region);
+    if call == Call::Region {
+        let region = || L::region(list, n, w, h, sx, sy, dx, dy, labels, g);
+        return Answer::Refusal(again(times, region));
+    }
+    let (route, z) = (&mut room.route, &mut room.state);
+    let drive = || {
+        *z = STATE;
+        L::drive(list, n, w, h, sx, sy, dx, dy, labels, g, route, z)
+    };
+    Answer::Drove(again(times, drive))
+}
+
+/// Enters the map's first marker, before all others, into a list that it fills: every other marker moves.
+pub fn enter_again<L: Listing>(input: &Input, room: &mut Room, times: usize) -> Answer {
+    let (n, side) = (input.list.len(), black_box(input.side));
+    let Marker { id, x, y } = black_box(input.list[0]);
+    let mut window = Window::to_enter(input);
+    for _ in 1..times {
+        let lent = window.lent();
+        black_box(L::enter(
+            lent,
+            n - 1,
+            side,
+            side,
+            id,
+            x as usize,
+            y as usize,
+        ));
+        window.entered();
+    }
+    let last = L::enter(window.lent(), n - 1, side, side, id, x as usize, y as usize);
+    room.slots[..n].copy_from_slice(window.lent());
+    Answer::Counted(last)
+}
+
+/// Clears the map's first marker from a full list: every other marker moves.
+pub fn clear_again<L: Listing>(input: &Input, room: &mut Room, times: usize) -> Answer {
+    let (n, side) = (input.list.len(), black_box(input.side));
+    let id = black_box(input.list[0].id);
+    let mut window = Window::to_clear(input);
+    for _ in 1..times {
+        black_box(L::clear(window.lent(), n, side, side, id));
+        window.cleared();
+    }
+    let last = L::clear(window.lent(), n, side, side, id);
+    room.slots[..n].copy_from_slice(window.lent());
+    Answer::Counted(last)
+}

@@ -1,0 +1,102 @@
+//! The eleven calls as both sides have them: over lent slices, with the answers of `grainbodkin-sys`.
+use grainbodkin_sys::{
+    Assurance, Counted, Drove, Four, Homeward, Labelling, Marker, ReadMap, WroteMap,
+};
+
+/// The two calls that change the list.
+pub trait Listing {
+    fn enter(
+        list: &mut [Marker],
+        count: usize,
+        w: usize,
+        h: usize,
+        id: u16,
+        x: usize,
+        y: usize,
+    ) -> Counted;
+
+    fn clear(list: &mut [Marker], count: usize, w: usize, h: usize, id: u16) -> Counted;
+}
+
+/// All eleven.
+pub trait Layer: Listing {
+    fn label(list: &[Marker], count: usize, w: usize, h: usize, labels: &mut [u8]) -> Labelling;
+
+    fn distances(
+        list: &[Marker],
+        count: usize,
+        w: usize,
+        h: usize,
+        x: usize,
+        y: usize,
+        labels: &mut [u8],
+    ) -> Four;
+
+    fn measure(
+        list: &[Marker],
+        count: usize,
+        w: usize,
+        h: usize,
+        labels: &mut [u8],
+        east: &mut [u8],
+        south: &mut [u8],
+        west: &mut [u8],
+        north: &mut [u8],
+    ) -> u8;
+
+    fn assured(
+        list: &[Marker],
+        count: usize,
+        w: usize,
+        h: usize,
+        hx: usize,
+        hy: usize,
+        x: usize,
+        y: usize,
+        labels: &mut [u8],
+    ) -> Assurance;
+
+    fn hop(
+        list: &[Marker],
+        count: usize,
+        w: usize,
+        h: usize,
+        hx: usize,
+        hy: usize,
+        x: usize,
+        y: usize,
+        labels: &mut [u8],
+    ) -> Homeward;
+
+    fn region(
+        list: &[Marker],
+        count: usize,
+        w: usize,
+        h: usize,
+        sx: usize,
+        sy: usize,
+        dx: usize,
+        dy: usize,
+        labels: &mut [u8],
+        region: &mut [u8],
+    ) -> u8;
+
+    fn drive(
+        list: &[Marker],
+        count: usize,
+        w: usize,
+        h: usize,
+        sx: usize,
+        sy: usize,
+        dx: usize,
+        dy: usize,
+        labels: &mut [u8],
+        region: &mut [u8],
+        route: &mut [u16],
+        state: &mut u32,
+    ) -> Drove;
+
+    fn read(file: &[u8], list: &mut [Marker]) -> ReadMap;
+
+    fn write(list: &[Marker], count: usize, w: usize, h: usize, out: &mut [u8]) -> WroteMap;
+}

@@ -1,0 +1,196 @@
+//! The library's side: each call hands its slices on as pointer and length. Rust's borrows see to it that what a call may write overlaps nothing else,
+//! so every `unsafe` below rests on the slices alone.
+use crate::layer::{Layer, Listing};
+use grainbodkin_sys as sys;
+use sys::{Assurance, Counted, Drove, Four, Homeward, Labelling, Marker, ReadMap, WroteMap};
+
+pub struct Library;
+
+impl Listing for Library {
+    fn enter(
+        list: &mut [Marker],
+        count: usize,
+        w: usize,
+        h: usize,
+        id: u16,
+        x: usize,
+        y: usize,
+    ) -> Counted {
+        unsafe { sys::bodkin_enter(list.as_mut_ptr(), list.len(), count, w, h, id, x, y) }
+    }
+
+    fn clear(list: &mut [Marker], count: usize, w: usize, h: usize, id: u16) -> Counted {
+        unsafe { sys::bodkin_clear(list.as_mut_ptr(), list.len(), count, w, h, id) }
+    }
+}
+
+impl Layer for Library {
+    fn label(list: &[Marker], count: usize, w: usize, h: usize, labels: &mut [u8]) -> Labelling {
+        let n = labels.len();
+        unsafe {
+            sys::bodkin_label(
+                list.as_ptr(),
+                list.len(),
+                count,
+                w,
+                h,
+                labels.as_mut_ptr(),
+                n,
+            )
+        }
+    }
+
+    fn distances(
+        list: &[Marker],
+        count: usize,
+        w: usize,
+        h: usize,
+        x: usize,
+        y: usize,
+        labels: &mut [u8],
+    ) -> Four {
+        let (list, lent) = (list.as_ptr(), list.len());
+        let n = labels.len();
+        unsafe { sys::bodkin_distances(list, lent, count, w, h, x, y, labels.as_mut_ptr(), n) }
+    }
+
+    fn measure(
+        list: &[Marker],
+        count: usize,
+        w: usize,
+        h: usize,
+        labels: &mut [u8],
+        east: &mut [u8],
+        south: &mut [u8],
+        west: &mut [u8],
+        north: &mut [u8],
+    ) -> u8 {
+        unsafe {
+            sys::bodkin_measure(
+                list.as_ptr(),
+                list.len(),
+                count,
+                w,
+                h,
+                labels.as_mut_ptr(),
+                labels.len(),
+                east.as_mut_ptr(),
+                east.len(),
+                south.as_mut_ptr(),
+                south.len(),
+                west.as_mut_ptr(),
+                west.len(),
+                north.as_mut_ptr(),
+                north.len(),
+            )
+        }
+    }
+
+    fn assured(
+        list: &[Marker],
+        count: usize,
+        w: usize,
+        h: usize,
+        hx: usize,
+        hy: usize,
+        x: usize,
+        y: usize,
+        labels: &mut [u8],
+    ) -> Assurance {
+        let (list, lent) = (list.as_ptr(), list.len());
+        let (labels, n) = (labels.as_mut_ptr(), labels.len());
+        unsafe { sys::bodkin_assured(list, lent, count, w, h, hx, hy, x, y, labels, n) }
+    }
+
+    fn hop(
+        list: &[Marker],
+        count: usize,
+        w: usize,
+        h: usize,
+        hx: usize,
+        hy: usize,
+        x: usize,
+        y: usize,
+        labels: &mut [u8],
+    ) -> Homeward {
+        let (list, lent) = (list.as_ptr(), list.len());
+        let (labels, n) = (labels.as_mut_ptr(), labels.len());
+        unsafe { sys::bodkin_hop(list, lent, count, w, h, hx, hy, x, y, labels, n) }
+    }
+
+    fn region(
+        list: &[Marker],
+        count: usize,
+        w: usize,
+        h: usize,
+        sx: usize,
+        sy: usize,
+        dx: usize,
+        dy: usize,
+        labels: &mut [u8],
+        region: &mut [u8],
+    ) -> u8 {
+        unsafe {
+            sys::bodkin_region(
+                list.as_ptr(),
+                list.len(),
+                count,
+                w,
+                h,
+                sx,
+                sy,
+                dx,
+                dy,
+                labels.as_mut_ptr(),
+                labels.len(),
+                region.as_mut_ptr(),
+                region.len(),
+            )
+        }
+    }
+
+    fn drive(
+        list: &[Marker],
+        count: usize,
+        w: usize,
+        h: usize,
+        sx: usize,
+        sy: usize,
+        dx: usize,
+        dy: usize,
+        labels: &mut [u8],
+        region: &mut [u8],
+        route: &mut [u16],
+        state: &mut u32,
+    ) -> Drove {
+        unsafe {
+            sys::bodkin_drive(
+                list.as_ptr(),
+                list.len(),
+                count,
+                w,
+                h,
+                sx,
+                sy,
+                dx,
+                dy,
+                labels.as_mut_ptr(),
+                labels.len(),
+                region.as_mut_ptr(),
+                region.len(),
+                route.as_mut_ptr(),
+                route.len(),
+                state,
+            )
+        }
+    }
+
+    fn read(file: &[u8], list: &mut [Marker]) -> ReadMap {
+        unsafe { sys::bodkin_read(file.as_ptr(), file.len(), list.as_mut_ptr(), list.len()) }
+    }
+
+    fn write(list: &[Marker], count: usize, w: usize, h: usize, out: &mut [u8]) -> WroteMap {
+        let n = out.len();
+        unsafe { sys::bodkin_write(list.as_ptr(), list.len(), count, w, h, out.as_mut_ptr(), n) }
+    }
+}

@@ -1,0 +1,161 @@
+//! Benchmarks of the proved library beside plain safe Rust of the same method, same run, same input.
+//!
+//!     bench                               asserts that both sides agree on every row, then prints each row's times and their ratio
+//!     bench rows                          the rows: call, side, map
+//!     bench one CALL SIDE MAP WHICH COUNT makes one side's call so many times, for a count of instructions; WHICH is library, plain,
+//!                                         or, to enter and clear alone, block
+//!     bench show MAP SIDE                 a map and its labels
+// The calls take what document 01 lends them.
+#![allow(clippy::too_many_arguments)]
+
+mod calls;
+mod input;
+mod layer;
+mod library;
+mod maps;
+mod plain;
+mod room;
+mod timing;
+
+use calls::{clear_again, enter_again, repeat, Answer, Call, CALLS};
+use input::Input;
+use layer::Layer;
+use library::Library;
+use plain::{Block, Plain};
+use room::Room;
+use std::process::ExitCode;
+
+const SIDES: [usize; 4] = [8, 16, 32, 64];
+
+fn main() -> ExitCode {
+    let words: Vec<String> = std::env::args().skip(1).collect();
+    let words: Vec<&str> = words.iter().map(String::as_str).collect();
+    let done = match words[..] {
+        [] => times(),
+        ["rows"] => rows(),
+        ["one", call, side, map, which, count] => one(call, side, map, which, count),
+        ["show", map, side] => show(map, side),
+        _ => None,
+    };
+    if done.is_none() {
+        eprintln!(
+            "usage: bench [rows | one CALL SIDE MAP library|plain|block COUNT | show MAP SIDE]"
+        );
+        return ExitCode::FAILURE;
+    }
+    ExitCode::SUCCESS
+}
+
+/// Every row: a call's name, the call, a side and a map's name.
+fn each_row(mut row: impl FnMut(&str, Call, usize, &str)) {
+    for (name, call) in CALLS {
+        for side in SIDES {
+            for map in call.maps() {
+                row(name, call, side, map);
+            }
+        }
+    }
+}
+
+/// The list of rows.
+fn rows() -> Option<()> {
+    each_row(|name, _, side, map| println!("{name} {side} {map}"));
+    Some(())
+}
+
+/// A side's length within the limit.
+fn side(word: &str) -> Option<usize> {
+    word.parse().ok().filter(|side| (1..=64).contains(side))
+}
+
+/// The table of times. Nothing is timed before both sides agreed on every row.
+fn times() -> Option<()> {
+    let mut rows = 0;
+    each_row(|name, call, side, map| {
+        agree(name, call, &input(map, side), map);
+        rows += 1;
+    });
+    println!("library and plain Rust agree on {rows} rows");
+    println!(
+        "{:10}{:>5}  {:13}{:>8}{:>12}{:>12}{:>8}",
+        "call", "side", "map", "refusal", "ns library", "ns plain", "ratio"
+    );
+    each_row(|name, call, side, map| {
+        let input = input(map, side);
+        let refusal = agree(name, call, &input, map).refusal();
+        let (library, plain) = timing::both(call, &input);
+        let ratio = library / plain;
+        println!("{name:10}{side:5}  {map:13}{refusal:8}{library:12.0}{plain:12.0}{ratio:8.2}");
+    });
+    Some(())
+}
+
+fn input(map: &str, side: usize) -> Input {
+    Input::new(map, side).expect("a row names a map")
+}
+
+/// Asserts that both sides give the same answer and leave the same memory, and hands the answer back.
+fn agree(name: &str, call: Call, input: &Input, map: &str) -> Answer {
+    let (library, library_room) = after::<Library>(call, input);
+    let (plain, plain_room) = after::<Plain>(call, input);
+    assert_eq!(library, plain, "{name} {} {map}: answers", input.side);
+    assert_eq!(library_room, plain_room, "{name} {} {map}", input.side);
+    if let Some(block) = block(call, input, 2) {
+        assert_eq!(
+            (library, library_room),
+            block,
+            "{name} {} {map}",
+            input.side
+        );
+    }
+    library
+}
+
+/// Entering or clearing by block moves so many times; no other call has them.
+fn block(call: Call, input: &Input, count: usize) -> Option<(Answer, Room)> {
+    let mut room = Room::new(input);
+    let answer = match call {
+        Call::Enter => enter_again::<Block>(input, &mut room, count),
+        Call::Clear => clear_again::<Block>(input, &mut room, count),
+        _ => return None,
+    };
+    Some((answer, room))
+}
+
+fn after<L: Layer>(call: Call, input: &Input) -> (Answer, Room) {
+    let mut room = Room::new(input);
+    (repeat::<L>(call, input, &mut room, 2), room)
+}
+
+/// One side's call so many times.
+fn one(call: &str, side: &str, map: &str, which: &str, count: &str) -> Option<()> {
+    let call = Call::named(call)?;
+    let input = Input::new(map, self::side(side)?)?;
+    let count = count.parse().ok()?;
+    let mut room = Room::new(&input);
+    match which {
+        "library" => repeat::<Library>(call, &input, &mut room, count),
+        "plain" => repeat::<Plain>(call, &input, &mut room, count),
+        "block" => block(call, &input, count)?.0,
+        _ => return None,
+    };
+    Some(())
+}
+
+/// A map, and beneath it its labels: . open, # rock, o shut.
+fn show(map: &str, side: &str) -> Option<()> {
+    let side = self::side(side)?;
+    let rocks = maps::rocks(map, side)?;
+    let input = Input::new(map, side)?;
+    let mut labels = vec![0; side * side];
+    let counts = Library::label(&input.list, input.list.len(), side, side, &mut labels);
+    println!("{}", maps::show(&rocks, side));
+    for row in labels.chunks(side).rev() {
+        let signs = row.iter().map(|&b| ['.', '#', 'o'][b as usize]);
+        println!("{}", signs.collect::<String>());
+    }
+    println!("{counts:?}");
+    println!("s, d {:?} {:?}", input.s, input.d);
+    println!("home, place {:?} {:?}", input.home, input.place);
+    Some(())
+}

@@ -1,0 +1,94 @@
+//! The maps that are measured, square, each by its name.
+
+/// Every map's name.
+pub const NAMES: [&str; 11] = [
+    "empty",
+    "sparse",
+    "dense",
+    "full",
+    "diagonal",
+    "chequerboard",
+    "lattice-1",
+    "lattice-2",
+    "blocks",
+    "spiral-1",
+    "spiral-2",
+];
+
+/// The map of this name, `side` crossings a side: whether each crossing has a rock, by number.
+///
+/// `sparse` and `dense` have 5 and 30 in a hundred crossings with a rock, drawn with a fixed seed. The lattices have single rocks with gaps of one and
+/// of two crossings between them; `blocks` has squares of four by four rocks with gaps of two, so that much is closed and nothing is shut. The spirals
+/// are a wall of rocks that winds inward, with an open corridor one and two crossings wide.
+pub fn rocks(name: &str, side: usize) -> Option<Vec<bool>> {
+    let each = |rock: fn(usize, usize) -> bool| {
+        Some((0..side * side).map(|i| rock(i % side, i / side)).collect())
+    };
+    match name {
+        "empty" => each(|_, _| false),
+        "sparse" => Some(drawn(side, 5)),
+        "dense" => Some(drawn(side, 30)),
+        "full" => each(|_, _| true),
+        "diagonal" => each(|x, y| x == y),
+        "chequerboard" => each(|x, y| (x + y) % 2 == 0),
+        "lattice-1" => each(|x, y| x % 2 == 0 && y % 2 == 0),
+        "lattice-2" => each(|x, y| x % 3 == 0 && y % 3 == 0),
+        "blocks" => each(|x, y| (x + 5) % 6 < 4 && (y + 5) % 6 < 4),
+        "spiral-1" => Some(spiral(side, 1)),
+        "spiral-2" => Some(spiral(side, 2)),
+        _ => None,
+    }
+}
+
+/// A map with so many in a hundred crossings with a rock, rounded up: the first crossings of a shuffle with a fixed seed.
+fn drawn(side: usize, hundredth: usize) -> Vec<bool> {
+    let size = side * side;
+    let mut order: Vec<usize> = (0..size).collect();
+    let mut state: u64 = 0x9e37_79b9_7f4a_7c15;
+    for last in (1..size).rev() {
+        state = state
+            .wrapping_mul(6364136223846793005)
+            .wrapping_add(1442695040888963407);
+        order.swap(last, (state >> 33) as usize % (last + 1));
+    }
+    let mut map = vec![false; size];
+    for &i in &order[..(size * hundredth).div_ceil(100)] {
+        map[i] = true;
+    }
+    map
+}
+
+/// A wall that starts in the south-west corner, goes round the map and winds inward, `corridor` open crossings between its turns. It is drawn leg by
+/// leg: the first three go along whole edges, and from then on each leg is a turn's pitch shorter than the last one along its axis.
+fn spiral(side: usize, corridor: usize) -> Vec<bool> {
+    let pitch = corridor as isize + 1;
+    let mut map = vec![false; side * side];
+    let (mut x, mut y) = (0, 0);
+    map[0] = true;
+    let heading = [(1, 0), (0, 1), (-1, 0), (0, -1)];
+    let mut left = [side as isize - 1; 2];
+    for leg in 0.. {
+        let (dx, dy) = heading[leg % 4];
+        if leg > 2 {
+            left[leg % 2] -= pitch;
+        }
+        if left[leg % 2] < pitch {
+            break; // a shorter leg would lean on the one before
+        }
+        for _ in 0..left[leg % 2] {
+            x += dx;
+            y += dy;
+            map[y as usize * side + x as usize] = true;
+        }
+    }
+    map
+}
+
+/// The map as text, rows from the north.
+pub fn show(map: &[bool], side: usize) -> String {
+    let row = |row: &[bool]| -> String {
+        let signs = row.iter().map(|&rock| if rock { '#' } else { '.' });
+        signs.chain(['\n']).collect()
+    };
+    map.chunks(side).rev().map(row).collect()
+}

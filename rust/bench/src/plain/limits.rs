@@ -1,0 +1,41 @@
+//! Document 01's limits, label bytes and refusal numbers.
+
+/// Width and height: 1 to so many each.
+pub const SIDE: usize = 64;
+
+/// So many markers are in use at most.
+pub const MOST_MARKERS: usize = 4096;
+
+/// So many crossings a map has at most.
+pub const MOST_CROSSINGS: usize = SIDE * SIDE;
+
+/// The mark of a distance that there is none.
+pub const NONE: u8 = 255;
+
+/// A label sheet's bytes.
+pub const OPEN: u8 = 0;
+pub const ROCK: u8 = 1;
+pub const SHUT: u8 = 2;
+
+/// Refusal numbers, and 0 on success.
+pub const SUCCESS: u8 = 0;
+pub const BAD_SIZE: u8 = 1;
+pub const BAD_SHEET: u8 = 2;
+pub const BAD_LIST: u8 = 3;
+pub const BAD_PLACE: u8 = 4;
+pub const ID_IN_USE: u8 = 5;
+pub const ID_NOT_IN_USE: u8 = 6;
+pub const NO_SLOT: u8 = 7;
+pub const END_CLOSED: u8 = 8;
+pub const NO_DRIVE: u8 = 9;
+pub const SHORT_ROUTE: u8 = 10;
+pub const NOT_ASSURED: u8 = 11;
+pub const BAD_LETTERS: u8 = 12;
+pub const BAD_HEADER: u8 = 13;
+pub const SHORT_RASTER: u8 = 14;
+pub const LONG_RASTER: u8 = 15;
+pub const SHARED_CROSSING: u8 = 16;
+pub const SHORT_OUTPUT: u8 = 17;
+
+/// A crossing, or a place asked.
+pub type Place = (usize, usize);

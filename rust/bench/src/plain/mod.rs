@@ -1,0 +1,275 @@
+//! The eleven calls in plain safe Rust, by the library's methods: what the library is measured against. Same interface, same refusals in the same
+//! order, same lent memory. No `unsafe`, nothing left out and nothing added to slow it down.
+#![forbid(unsafe_code)]
+
+mod closing;
+mod distances;
+mod drives;
+mod header;
+mod hops;
+mod judging;
+mod limits;
+mod raster;
+mod reader;
+mod records;
+mod region;
+mod settling;
+mod writer;
+
+use crate::layer::{Layer, Listing};
+use grainbodkin_sys::{
+    Assurance, Counted, Drove, Four, Homeward, Labelling, Marker, ReadMap, WroteMap,
+};
+use judging::{fits, prepare};
+use limits::*;
+
+/// The plain Rust side. No call is inlined into its caller, as none of the library's is.
+pub struct Plain;
+
+impl Listing for Plain {
+    #[inline(never)]
+    fn enter(
+        list: &mut [Marker],
+        count: usize,
+        w: usize,
+        h: usize,
+        id: u16,
+        x: usize,
+        y: usize,
+    ) -> Counted {
+        match judging::may_enter(list, count, w, h, id, x, y) {
+            Err(refusal) => Counted { refusal, count: 0 },
+            Ok((marker, _)) => Counted {
+                refusal: SUCCESS,
+                count: records::enter(list, count, marker),
+            },
+        }
+    }
+
+    #[inline(never)]
+    fn clear(list: &mut [Marker], count: usize, w: usize, h: usize, id: u16) -> Counted {
+        match judging::may_clear(list, count, w, h, id) {
+            Err(refusal) => Counted { refusal, count: 0 },
+            Ok(_) => Counted {
+                refusal: SUCCESS,
+                count: records::clear(list, count, id),
+            },
+        }
+    }
+}
+
+impl Layer for Plain {
+    #[inline(never)]
+    fn label(list: &[Marker], count: usize, w: usize, h: usize, labels: &mut [u8]) -> Labelling {
+        match prepare(list, count, w, h, (0, 0), (0, 0), true, labels) {
+            Err(refusal) => Labelling {
+                refusal,
+                rocks: 0,
+                shut: 0,
+                groups: 0,
+            },
+            Ok(()) => settling::label(labels, w, h),
+        }
+    }
+
+    #[inline(never)]
+    fn distances(
+        list: &[Marker],
+        count: usize,
+        w: usize,
+        h: usize,
+        x: usize,
+        y: usize,
+        labels: &mut [u8],
+    ) -> Four {
+        if let Err(refusal) = prepare(list, count, w, h, (x, y), (x, y), true, labels) {
+            let four = [0; 4];
+            return Four { refusal, four };
+        }
+        settling::label(labels, w, h);
+        Four {
+            refusal: SUCCESS,
+            four: distances::four(labels, w, x, y),
+        }
+    }
+
+    #[inline(never)]
+    fn measure(
+        list: &[Marker],
+        count: usize,
+        w: usize,
+        h: usize,
+        labels: &mut [u8],
+        east: &mut [u8],
+        south: &mut [u8],
+        west: &mut [u8],
+        north: &mut [u8],
+    ) -> u8 {
+        let lengths = [east.len(), south.len(), west.len(), north.len()];
+        let others = lengths.iter().all(|&n| fits(w, h, n));
+        if let Err(refusal) = prepare(list, count, w, h, (0, 0), (0, 0), others, labels) {
+            return refusal;
+        }
+        settling::label(labels, w, h);
+        distances::measure(labels, w, east, south, west, north);
+        SUCCESS
+    }
+
+    #[inline(never)]
+    fn assured(
+        list: &[Marker],
+        count: usize,
+        w: usize,
+        h: usize,
+        hx: usize,
+        hy: usize,
+        x: usize,
+        y: usize,
+        labels: &mut [u8],
+    ) -> Assurance {
+        if let Err(refusal) = prepare(list, count, w, h, (hx, hy), (x, y), true, labels) {
+            let assured = false;
+            return Assurance { refusal, assured };
+        }
+        settling::label(labels, w, h);
+        hops::assurance(labels, w, (hx, hy), (x, y))
+    }
+
+    #[inline(never)]
+    fn hop(
+        list: &[Marker],
+        count: usize,
+        w: usize,
+        h: usize,
+        hx: usize,
+        hy: usize,
+        x: usize,
+        y: usize,
+        labels: &mut [u8],
+    ) -> Homeward {
+        if let Err(refusal) = prepare(list, count, w, h, (hx, hy), (x, y), true, labels) {
+            return hops::no_hop(refusal);
+        }
+        settling::label(labels, w, h);
+        hops::homeward(labels, w, (hx, hy), (x, y))
+    }
+
+    #[inline(never)]
+    fn region(
+        list: &[Marker],
+        count: usize,
+        w: usize,
+        h: usize,
+        sx: usize,
+        sy: usize,
+        dx: usize,
+        dy: usize,
+        labels: &mut [u8],
+        region: &mut [u8],
+    ) -> u8 {
+        let others = fits(w, h, region.len());
+        if let Err(refusal) = prepare(list, count, w, h, (sx, sy), (dx, dy), others, labels) {
+            return refusal;
+        }
+        settling::label(labels, w, h);
+        match region::region(labels, w, (sx, sy), (dx, dy), region) {
+            Err(refusal) => refusal,
+            Ok(()) => SUCCESS,
+        }
+    }
+
+    #[inline(never)]
+    fn drive(
+        list: &[Marker],
+        count: usize,
+        w: usize,
+        h: usize,
+        sx: usize,
+        sy: usize,
+        dx: usize,
+        dy: usize,
+        labels: &mut [u8],
+        region: &mut [u8],
+        route: &mut [u16],
+        state: &mut u32,
+    ) -> Drove {
+        let length = 0;
+        let others = fits(w, h, region.len());
+        if let Err(refusal) = prepare(list, count, w, h, (sx, sy), (dx, dy), others, labels) {
+            return Drove { refusal, length };
+        }
+        settling::label(labels, w, h);
+        match drives::drive(labels, w, (sx, sy), (dx, dy), region, route, state) {
+            Err(refusal) => Drove { refusal, length },
+            Ok(length) => Drove {
+                refusal: SUCCESS,
+                length,
+            },
+        }
+    }
+
+    #[inline(never)]
+    fn read(file: &[u8], list: &mut [Marker]) -> ReadMap {
+        match reader::read(file, list) {
+            Err(refusal) => ReadMap {
+                refusal,
+                width: 0,
+                height: 0,
+                count: 0,
+            },
+            Ok((width, height, count)) => ReadMap {
+                refusal: SUCCESS,
+                width,
+                height,
+                count,
+            },
+        }
+    }
+
+    #[inline(never)]
+    fn write(list: &[Marker], count: usize, w: usize, h: usize, out: &mut [u8]) -> WroteMap {
+        match writer::write_list(list, count, w, h, out) {
+            Err(refusal) => WroteMap { refusal, bytes: 0 },
+            Ok(bytes) => WroteMap {
+                refusal: SUCCESS,
+                bytes,
+            },
+        }
+    }
+}
+
+/// Entering and clearing by block moves: the place that the search found is used, and the standard library moves all later markers at once. Not the
+/// library's method; it shows what that one leaves on the table.
+pub struct Block;
+
+impl Listing for Block {
+    #[inline(never)]
+    fn enter(
+        list: &mut [Marker],
+        count: usize,
+        w: usize,
+        h: usize,
+        id: u16,
+        x: usize,
+        y: usize,
+    ) -> Counted {
+        match judging::may_enter(list, count, w, h, id, x, y) {
+            Err(refusal) => Counted { refusal, count: 0 },
+            Ok((marker, place)) => Counted {
+                refusal: SUCCESS,
+                count: records::enter_block(list, count, marker, place),
+            },
+        }
+    }
+
+    #[inline(never)]
+    fn clear(list: &mut [Marker], count: usize, w: usize, h: usize, id: u16) -> Counted {
+        match judging::may_clear(list, count, w, h, id) {
+            Err(refusal) => Counted { refusal, count: 0 },
+            Ok(place) => Counted {
+                refusal: SUCCESS,
+                count: records::clear_block(list, count, place),
+            },
+        }
+    }
+}

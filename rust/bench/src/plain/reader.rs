@@ -1,0 +1,33 @@
+//! The map reader: P1 and P4. It goes over the header once and over the raster twice, so that a refusal changes no slot.
+use super::header::header;
+use super::judging::sized;
+use super::limits::*;
+use super::raster;
+use grainbodkin_sys::Marker;
+
+/// Reads a map file into the first slots of the list. Hands back width, height and count, or the refusal.
+pub fn read(file: &[u8], list: &mut [Marker]) -> Result<(usize, usize, usize), u8> {
+    let (plain, bytes) = match file {
+        [b'P', b'1', bytes @ ..] => (true, bytes),
+        [b'P', b'4', bytes @ ..] => (false, bytes),
+        _ => return Err(BAD_LETTERS),
+    };
+    let (w, h, body) = header(bytes).ok_or(BAD_HEADER)?;
+    if !sized(w, h) {
+        return Err(BAD_SIZE);
+    }
+    let rocks = if plain {
+        raster::judge_plain(body, w, h)?
+    } else {
+        raster::judge_raw(body, w, h)?
+    };
+    if rocks > list.len() || rocks > MOST_MARKERS {
+        return Err(NO_SLOT);
+    }
+    if plain {
+        raster::fill_plain(body, w, h, list);
+    } else {
+        raster::fill_raw(body, w, list);
+    }
+    Ok((w, h, rocks))
+}
