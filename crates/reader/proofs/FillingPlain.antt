@@ -15,7 +15,7 @@ use Rattle.mapfile.specs.RockLaws.{raster-bits, markers-count}
 use Rattle.reader.specs.RasterParts.{placeOf, MayFill, Fills, BitByte, zero-byte, one-byte, Steps}
 use Rattle.reader.specs.declared.raster.Place.{Place}
 use Rattle.reader.proofs.Rows.{row-below, take-next}
-use Rattle.reader.proofs.Skipping.{left-cons}
+use Rattle.header.specs.Left.{left-cons}
 use Rattle.reader.proofs.Filling.{Room, FillingAt, fill-end}
 
 -- The bits of a byte more.

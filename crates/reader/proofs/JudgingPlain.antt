@@ -27,7 +27,7 @@ use Rattle.mapfile.specs.MarkerLaws.{ones, ones-le, ones-snoc}
 use Rattle.reader.specs.RasterParts.{BitByte, zero-byte, one-byte, JudgedAs}
 use Rattle.reader.proofs.Limits.{crossings-few}
 use Rattle.reader.proofs.Rows.{take-next}
-use Rattle.reader.proofs.Skipping.{left-cons}
+use Rattle.header.specs.Left.{left-cons}
 use Rattle.reader.proofs.Judging.{judged, rocks-marked}
 
 pub record JudgingPlain (w h : ℕ) (body : List ℕ) (digits rocks i : ℕ) : Type 0 where

@@ -1,8 +1,5 @@
 -- Laws that the proofs of the reader's functions share.
-mod Answers
 mod FirstTwo
-mod Skipping
-mod Numbering
 mod Heading
 pub mod Limits
 mod Rows

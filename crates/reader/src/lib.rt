@@ -1,7 +1,6 @@
 // The map reader: PBM, plain P1 and raw P4, within document 01's bounds, into the marker list over parallel slices. It goes over the header once and
 // over the raster twice: first the raster is judged and its rocks are counted, and only when nothing is left to refuse are they entered. So a refusal
 // changes no slot.
-mod header;
 mod plain;
 mod raster;
 mod raw;
@@ -15,7 +14,7 @@ ghost use Prim.Native.Nat.{ℕ};
 ghost use Rattle.field.specs.Map.{Sides};
 ghost use Rattle.markers.specs.Promise.{listOf, Parallel};
 ghost use Rattle.reader.specs.Promise.{Reads};
-ghost use Rattle.reader.specs.HeaderParts.{SameTwo, LettersRead};
+ghost use Rattle.reader.specs.LettersParts.{SameTwo, LettersRead};
 ghost use Rattle.reader.specs.RasterParts.{JudgedAs, MayFill, Fills, formatOf, HasRoom, RasterRefusal, MayReadRaster, RasterReads, MayReadMap};
 
 // "Width and height: 1 to 64 each."

@@ -1,9 +1,9 @@
 // The P1 raster: "digits 0 and 1, blanks allowed anywhere before, between and after".
-use super::header::is_blank;
 use super::raster::Judged;
 use super::raster::Place;
 use super::raster::enter_bit;
 use super::raster::next;
+use header::is_blank;
 ghost use mathlib.Core.Path.{_≡_};
 ghost use mathlib.Core.Bool.{true};
 ghost use mathlib.Core.Logic.{_↔_};

@@ -5,7 +5,7 @@ use native.Mathlib.Omega.{arith}
 use lib.ListN.{length, getD}
 use Rattle.reader.specs.RasterParts.{BitByte}
 use Rattle.mapfile.specs.RasterWorking.{digitsOf}
-use Rattle.reader.proofs.Answers.{answered-no}
+use Rattle.header.specs.Answers.{answered-no}
 use Rattle.reader.proofs.JudgingPlain.{bit-value}
 use Rattle.reader.proofs.Filling.{FillingAt, fill-start, fill-may, fill-step, fill-more}
 use Rattle.reader.proofs.FillingPlain.{

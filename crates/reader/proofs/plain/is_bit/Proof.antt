@@ -2,7 +2,7 @@
 use mathlib.Core.Path.{_≡_}
 use Prim.Native.Nat.{ℕ}
 use Rattle.reader.specs.RasterParts.{BitByte, zero-byte, one-byte}
-use Rattle.reader.proofs.Answers.{answer-yes, answer-no}
+use Rattle.header.specs.Answers.{answer-yes, answer-no}
 use Rattle.reader.proofs.plain.is_bit.Statement.{statement}
 use Rattle.reader.proofs.plain.is_bit.Tie as tie
 

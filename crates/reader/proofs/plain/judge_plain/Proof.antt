@@ -4,7 +4,7 @@ use native.Mathlib.Omega.{arith}
 use borrow.Author.Tests.{not-true, not-false}
 use lib.ListN.{length, getD}
 use Rattle.reader.specs.RasterParts.{BitByte}
-use Rattle.reader.proofs.Answers.{answered-no}
+use Rattle.header.specs.Answers.{answered-no}
 use Rattle.reader.proofs.Limits.{crossings-few}
 use Rattle.reader.proofs.JudgingPlain.{
   JudgingPlain,
