@@ -1,5 +1,5 @@
-// The header of a map file: "Then a separator, the width, a separator, the height, exactly one blank byte". Each part says where it ends, so that the next begins
-// there.
+// The header of a map file: "Then a separator, the width, a separator, the height, exactly one blank byte". Each part says where it ends, so that
+// the next begins there.
 ghost use mathlib.Core.Path.{_≡_};
 ghost use mathlib.Core.Bool.{true, false};
 ghost use mathlib.Core.Logic.{_↔_};
