@@ -21,7 +21,7 @@ use Rattle.markers.specs.Laws.Slices.{listOf-length, listOf-x, listOf-y}
 use Rattle.reader.specs.declared.Reading.{Reading}
 use Rattle.reader.specs.declared.Reading.the-variants.{Map, Refused}
 use Rattle.reader.specs.Promise.{Reads, Taken, Turned}
-use Rattle.reader.proofs.Limits.{crossings-few, most-markers-is}
+use Rattle.mapfile.specs.Limits.{crossings-few, most-markers-is}
 use Rattle.chart.specs.Promise.{most-bytes, Charted, at-fault, shown}
 use Rattle.chart.specs.Parts.{Puts, MarkersShown, RefusalLine}
 use Rattle.chart.proofs.Showing.{shown-alike}

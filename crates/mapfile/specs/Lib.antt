@@ -15,3 +15,4 @@ pub mod RockLaws
 pub mod PlainLaws
 pub mod PackedLaws
 pub mod WrittenLaws
+pub mod Limits

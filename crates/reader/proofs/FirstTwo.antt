@@ -5,7 +5,7 @@ use Prim.Native.Nat.{ℕ, _≤_}
 use native.Mathlib.Omega.{arith}
 use lib.ListN.{length, drop}
 use Rattle.mapfile.specs.File.{Format, plain, raw, Letters, lettersOf}
-use Rattle.reader.specs.HeaderParts.{SameTwo, LettersRead}
+use Rattle.reader.specs.LettersParts.{SameTwo, LettersRead}
 use Rattle.reader.specs.declared.Letters.{Letters as LettersFound}
 use Rattle.reader.specs.declared.Letters.the-variants.{Plain, Raw, Neither}
 

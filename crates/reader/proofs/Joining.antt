@@ -28,8 +28,20 @@ use Rattle.mapfile.specs.File.{
   NoSlot,
 }
 use Rattle.reader.specs.Promise.{Taken, Turned, Reads}
-use Rattle.reader.specs.RasterParts.{RasterOf, JudgedAs, HasRoom, RasterRefusal, at-fault, at-slots, at-none, MayFill, Fills, MayReadRaster, RasterTaken, RasterOver, RasterTurned, RasterReads}
-use Rattle.reader.specs.declared.raster.Judged.{Judged}
+use Rattle.raster.specs.RasterParts.{RasterOf, JudgedAs, MayFill, Fills}
+use Rattle.raster.specs.declared.Judged.{Judged}
+use Rattle.reader.specs.ReadingParts.{
+  HasRoom,
+  RasterRefusal,
+  at-fault,
+  at-slots,
+  at-none,
+  MayReadRaster,
+  RasterTaken,
+  RasterOver,
+  RasterTurned,
+  RasterReads,
+}
 use Rattle.reader.specs.declared.Reading.{Reading}
 use Rattle.reader.specs.declared.Reading.the-variants.{Map, Refused}
 

@@ -1,6 +1,6 @@
 -- What the map reader promises, that its outcome is one, and what stands in the list after it.
 pub mod Promise
-pub mod HeaderParts
-pub mod RasterParts
+pub mod LettersParts
+pub mod ReadingParts
 pub mod Outcome
 pub mod Entered

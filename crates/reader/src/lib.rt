@@ -1,11 +1,6 @@
 // The map reader: PBM, plain P1 and raw P4, within document 01's bounds, into the marker list over parallel slices. It goes over the header once and
 // over the raster twice: first the raster is judged and its rocks are counted, and only when nothing is left to refuse are they entered. So a refusal
 // changes no slot.
-mod header;
-mod plain;
-mod raster;
-mod raw;
-
 use header::Head;
 use raster::Judged;
 ghost use mathlib.Core.Path.{_≡_};
@@ -15,8 +10,9 @@ ghost use Prim.Native.Nat.{ℕ};
 ghost use Rattle.field.specs.Map.{Sides};
 ghost use Rattle.markers.specs.Promise.{listOf, Parallel};
 ghost use Rattle.reader.specs.Promise.{Reads};
-ghost use Rattle.reader.specs.HeaderParts.{SameTwo, LettersRead};
-ghost use Rattle.reader.specs.RasterParts.{JudgedAs, MayFill, Fills, formatOf, HasRoom, RasterRefusal, MayReadRaster, RasterReads, MayReadMap};
+ghost use Rattle.reader.specs.LettersParts.{SameTwo, LettersRead};
+ghost use Rattle.raster.specs.RasterParts.{formatOf};
+ghost use Rattle.reader.specs.ReadingParts.{HasRoom, RasterRefusal, MayReadRaster, RasterReads, MayReadMap};
 
 // "Width and height: 1 to 64 each."
 const SIDE: usize = 64;
@@ -85,37 +81,6 @@ fn fits(w: usize, h: usize) -> bool
     true
 }
 
-// Judges a raster of either format.
-fn judge(plain: bool, body: &[u8], w: usize, h: usize) -> Judged
-    requires { ⌜ Sides w h ⌝ }
-    ensures { λ r. ⌜ JudgedAs (formatOf plain) w h (now (body .entry)) r ⌝ }
-{
-    if plain {
-        return plain::judge_plain(body, w, h);
-    }
-    raw::judge_raw(body, w, h)
-}
-
-// Enters the rocks of a raster of either format.
-fn fill(
-    plain: bool,
-    body: &[u8],
-    w: usize,
-    h: usize,
-    ids: &mut [u16],
-    xs: &mut [u16],
-    ys: &mut [u16],
-)
-    requires { ⌜ MayFill (formatOf plain) w h (now body) (now ids) (now xs) (now ys) ⌝ }
-    ensures { λ _. ⌜ Fills (formatOf plain) w h (now (body .entry)) (now (ids .entry)) (now (xs .entry)) (now (ys .entry)) (now (ids .exit)) (now (xs .exit)) (now (ys .exit)) ⌝ }
-{
-    if plain {
-        plain::fill_plain(body, w, h, ids, xs, ys);
-    } else {
-        raw::fill_raw(body, w, h, ids, xs, ys);
-    }
-}
-
 // Whether the rocks find a slot each: they pass neither the list lent nor the limit.
 fn has_room(rocks: usize, lent: usize) -> bool
     ensures { λ r. ⌜ ((r ≡ true) ↔ HasRoom rocks lent) ⌝ }
@@ -158,12 +123,12 @@ fn read_raster(
     ensures same { λ r. ⌜ Parallel (now (ids .exit)) (now (xs .exit)) (now (ys .exit)) ⌝ }
     ensures read { λ r. ⌜ RasterReads (formatOf plain) w h (now (body .entry)) (listOf (now (ids .entry)) (now (xs .entry)) (now (ys .entry))) (listOf (now (ids .exit)) (now (xs .exit)) (now (ys .exit))) r ⌝ }
 {
-    let judged = judge(plain, body, w, h);
+    let judged = raster::judge(plain, body, w, h);
     let n = refusal(judged, ids.len());
     if n != 0 {
         return Reading::Refused(n);
     }
-    fill(plain, body, w, h, ids, xs, ys);
+    raster::fill(plain, body, w, h, ids, xs, ys);
     Reading::Map(w, h, judged.rocks)
 }
 

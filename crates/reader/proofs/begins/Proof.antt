@@ -1,7 +1,7 @@
 -- `begins` meets its contract: at each return the tests say which of the three facts fails, or that all hold.
 use native.Mathlib.Omega.{arith}
 use borrow.Author.Needs.{needs}
-use Rattle.reader.proofs.Answers.{answer-no}
+use Rattle.header.specs.Answers.{answer-no}
 use Rattle.reader.proofs.begins.Statement.{statement}
 use Rattle.reader.proofs.begins.Tie as tie
 

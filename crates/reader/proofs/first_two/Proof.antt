@@ -2,7 +2,7 @@
 use borrow.Author.Needs.{needs}
 use Rattle.mapfile.specs.File.{plain, raw}
 use Rattle.reader.proofs.FirstTwo.{same-letters, letters-neither}
-use Rattle.reader.proofs.Answers.{answered-no}
+use Rattle.header.specs.Answers.{answered-no}
 use Rattle.reader.proofs.first_two.Statement.{statement}
 use Rattle.reader.proofs.first_two.Tie as tie
 

@@ -2,7 +2,7 @@
 use mathlib.Core.Path.{_≡_, refl}
 use native.Mathlib.Omega.{arith}
 use Rattle.field.specs.Map.{side}
-use Rattle.reader.proofs.Answers.{answer-yes, answer-no}
+use Rattle.header.specs.Answers.{answer-yes, answer-no}
 use Rattle.reader.proofs.fits.Statement.{statement}
 use Rattle.reader.proofs.fits.Tie as tie
 

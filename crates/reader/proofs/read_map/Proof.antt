@@ -1,8 +1,8 @@
 -- `read_map` meets its contract: no header, sides out of bounds, or what reading the raster finds, in that order.
 use borrow.Author.Tests.{not-true, not-false}
 use lib.ListN.{drop}
-use Rattle.reader.specs.RasterParts.{formatOf}
-use Rattle.reader.proofs.Answers.{answered-no}
+use Rattle.raster.specs.RasterParts.{formatOf}
+use Rattle.header.specs.Answers.{answered-no}
 use Rattle.reader.proofs.FirstTwo.{letters-long}
 use Rattle.reader.proofs.Heading.{head-found, head-missing}
 use Rattle.reader.proofs.Joining.{part-is, map-no-header, map-no-sides, map-reads}

@@ -1,8 +1,8 @@
 -- `refusal` meets its contract: the first test that holds names the refusal.
 use mathlib.Core.Path.{refl}
 use borrow.Author.Tests.{not-true, not-false}
-use Rattle.reader.specs.RasterParts.{at-fault, at-slots, at-none}
-use Rattle.reader.proofs.Answers.{answered-no}
+use Rattle.reader.specs.ReadingParts.{at-fault, at-slots, at-none}
+use Rattle.header.specs.Answers.{answered-no}
 use borrow.Author.Needs.{needs}
 use Rattle.reader.proofs.refusal.Statement.{statement}
 use Rattle.reader.proofs.refusal.Tie as tie

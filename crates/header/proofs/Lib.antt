@@ -1,0 +1,4 @@
+-- Laws that the proofs of the header's functions share.
+mod Skipping
+mod Numbering
+mod Heading

@@ -1,0 +1,4 @@
+-- What reading the header promises, and laws that its proofs share with those of the crates above.
+pub mod HeaderParts
+pub mod Answers
+pub mod Left

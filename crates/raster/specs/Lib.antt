@@ -1,0 +1,2 @@
+-- What judging and entering a raster promise.
+pub mod RasterParts

@@ -1,0 +1,97 @@
+// A map file's raster, P1 or P4. It is gone over twice: judged first, with its rocks counted, and then its rocks are entered. Here stands what both
+// formats share: a crossing's place in raster order, what judging finds, and the marker of one bit.
+mod plain;
+mod raw;
+
+ghost use Prim.Native.Nat.{ℕ};
+ghost use Rattle.field.specs.Map.{Sides};
+ghost use Rattle.raster.specs.RasterParts.{MayStep, Steps, JudgedAs, MayEnterBit, EntersBit, MayFill, Fills, formatOf};
+
+// Document 01's refusal numbers of a raster.
+pub(crate) const BAD_HEADER: u8 = 13;
+
+pub(crate) const SHORT_RASTER: u8 = 14;
+
+pub(crate) const LONG_RASTER: u8 = 15;
+
+// A crossing of the raster: its column, and its row counted from the north.
+pub(crate) struct Place {
+    pub x: usize,
+    pub row: usize,
+}
+
+// What judging a raster finds: the number of its first fault, or 0; and the rocks met.
+pub struct Judged {
+    pub fault: u8,
+    pub rocks: usize,
+}
+
+// The next crossing in raster order: from the west, row by row.
+pub(crate) fn next(p: Place, w: usize) -> Place
+    requires { ⌜ MayStep w p ⌝ }
+    ensures { λ r. ⌜ Steps w p r ⌝ }
+{
+    if p.x + 1 < w {
+        return Place {
+            x: p.x + 1,
+            row: p.row,
+        };
+    }
+    Place {
+        x: 0,
+        row: p.row + 1,
+    }
+}
+
+// Enters the marker of a crossing whose bit is 1 in slot n, with the next id; a bit of 0 enters none. Hands back how many are entered.
+pub(crate) fn enter_bit(
+    ids: &mut [u16],
+    xs: &mut [u16],
+    ys: &mut [u16],
+    n: usize,
+    bit: u8,
+    x: usize,
+    y: usize,
+) -> usize
+    requires { ⌜ MayEnterBit (now ids) (now xs) (now ys) n bit x y ⌝ }
+    ensures { λ r. ⌜ EntersBit (now (ids .entry)) (now (xs .entry)) (now (ys .entry)) n bit x y (now (ids .exit)) (now (xs .exit)) (now (ys .exit)) r ⌝ }
+{
+    if bit == 0 {
+        return n;
+    }
+    ids[n] = (n + 1) as u16;
+    xs[n] = x as u16;
+    ys[n] = y as u16;
+    n + 1
+}
+
+// Judges a raster of either format.
+pub fn judge(plain: bool, body: &[u8], w: usize, h: usize) -> Judged
+    requires { ⌜ Sides w h ⌝ }
+    ensures { λ r. ⌜ JudgedAs (formatOf plain) w h (now (body .entry)) r ⌝ }
+{
+    if plain {
+        return plain::judge_plain(body, w, h);
+    }
+    raw::judge_raw(body, w, h)
+}
+
+// Enters the rocks of a raster of either format.
+pub fn fill(
+    plain: bool,
+    body: &[u8],
+    w: usize,
+    h: usize,
+    ids: &mut [u16],
+    xs: &mut [u16],
+    ys: &mut [u16],
+)
+    requires { ⌜ MayFill (formatOf plain) w h (now body) (now ids) (now xs) (now ys) ⌝ }
+    ensures { λ _. ⌜ Fills (formatOf plain) w h (now (body .entry)) (now (ids .entry)) (now (xs .entry)) (now (ys .entry)) (now (ids .exit)) (now (xs .exit)) (now (ys .exit)) ⌝ }
+{
+    if plain {
+        plain::fill_plain(body, w, h, ids, xs, ys);
+    } else {
+        raw::fill_raw(body, w, h, ids, xs, ys);
+    }
+}

@@ -1,0 +1,92 @@
+// The P1 raster: "digits 0 and 1, blanks allowed anywhere before, between and after".
+use super::BAD_HEADER;
+use super::Judged;
+use super::LONG_RASTER;
+use super::Place;
+use super::SHORT_RASTER;
+use super::enter_bit;
+use super::next;
+use header::is_blank;
+ghost use mathlib.Core.Path.{_≡_};
+ghost use mathlib.Core.Bool.{true};
+ghost use mathlib.Core.Logic.{_↔_};
+ghost use Prim.Native.Nat.{ℕ};
+ghost use Rattle.field.specs.Map.{Sides};
+ghost use Rattle.mapfile.specs.File.{plain};
+ghost use Rattle.raster.specs.RasterParts.{JudgedAs, MayFill, Fills, BitByte};
+
+// Whether the byte is a digit 0 or 1.
+fn is_bit(b: u8) -> bool
+    ensures { λ r. ⌜ ((r ≡ true) ↔ BitByte b) ⌝ }
+{
+    if b == b'0' {
+        return true;
+    }
+    if b == b'1' {
+        return true;
+    }
+    false
+}
+
+// Judges a P1 raster: "digits 0 and 1, blanks allowed anywhere before, between and after". It stops at the first fault met.
+pub(crate) fn judge_plain(body: &[u8], w: usize, h: usize) -> Judged
+    requires { ⌜ Sides w h ⌝ }
+    ensures { λ r. ⌜ JudgedAs plain w h (now (body .entry)) r ⌝ }
+{
+    let size = h * w;
+    let mut digits: usize = 0;
+    let mut rocks: usize = 0;
+    let mut i = 0;
+    while i < body.len() {
+        let b = body[i];
+        i += 1;
+        if !is_blank(b) {
+            if digits == size {
+                return Judged {
+                    fault: LONG_RASTER,
+                    rocks,
+                };
+            }
+            if !is_bit(b) {
+                return Judged {
+                    fault: BAD_HEADER,
+                    rocks,
+                };
+            }
+            digits += 1;
+            rocks += (b - b'0') as usize;
+        }
+    }
+    if digits < size {
+        return Judged {
+            fault: SHORT_RASTER,
+            rocks,
+        };
+    }
+    Judged { fault: 0, rocks }
+}
+
+// Enters the rocks of a P1 raster in raster order.
+pub(crate) fn fill_plain(
+    body: &[u8],
+    w: usize,
+    h: usize,
+    ids: &mut [u16],
+    xs: &mut [u16],
+    ys: &mut [u16],
+)
+    requires { ⌜ MayFill plain w h (now body) (now ids) (now xs) (now ys) ⌝ }
+    ensures { λ _. ⌜ Fills plain w h (now (body .entry)) (now (ids .entry)) (now (xs .entry)) (now (ys .entry)) (now (ids .exit)) (now (xs .exit)) (now (ys .exit)) ⌝ }
+{
+    let mut n: usize = 0;
+    let mut p = Place { x: 0, row: 0 };
+    let mut i = 0;
+    while i < body.len() {
+        let b = body[i];
+        i += 1;
+        if is_bit(b) {
+            n = enter_bit(ids, xs, ys, n, b - b'0', p.x, h - (p.row + 1));
+            p = next(p, w);
+        }
+    }
+}
