@@ -70,9 +70,15 @@ pub record Settling (w x y : ℕ) (s : List ℕ) : Type 0 where
   pub in-sheet : number w x y < length s
   pub passed : Passed s (number w x y)
 
-pub record Settled (w x y : ℕ) (s t : List ℕ) (r : Labelled) : Type 0 where
+-- And the sum so far has room for it, whatever it counts for.
+pub record Summing (w x y : ℕ) (s : List ℕ) (sum : Labelled) : Type 0 where
+  pub place : Settling w x y s
+  pub room : Adding sum (counted 1 1 1)
+
+-- It is settled, and r is the sum with what it counts for.
+pub record Settled (w x y : ℕ) (s t : List ℕ) (sum r : Labelled) : Type 0 where
   pub turned : t ≡ set s (number w x y) (settled (at s w x y))
-  pub counts : r ≡ worth s w x y
+  pub counts : r ≡ sumOf sum (worth s w x y)
 
 -- Row y can be settled: the rows before it are.
 pub record SettlingRow (w y : ℕ) (s : List ℕ) : Type 0 where

@@ -4,7 +4,7 @@ use super::Labelled;
 ghost use mathlib.Core.Path.{_≡_};
 ghost use Prim.Native.Nat.{_+_, _-_};
 ghost use Rattle.labels.specs.Settling.{counted, sumOf, Adding, westBit, southBit};
-ghost use Rattle.labels.specs.Settling.{Settling, Settled, SettlingRow, SettledRow, SettlingAll, SettledAll};
+ghost use Rattle.labels.specs.Settling.{Settling, Summing, Settled, SettlingRow, SettledRow, SettlingAll, SettledAll};
 
 // Three counts as one value.
 fn counts(rocks: usize, shut: usize, groups: usize) -> Labelled
@@ -70,25 +70,26 @@ fn corner(s: &[u8], w: usize, x: usize, y: usize) -> usize
     1
 }
 
-// Takes the note at (x, y) off, and tells what the crossing counts for.
-fn settle(s: &mut [u8], w: usize, x: usize, y: usize) -> Labelled
-    requires { ⌜ Settling w x y (now s) ⌝ }
-    ensures { λ r. ⌜ Settled w x y (now (s .entry)) (now (s .exit)) r ⌝ }
+// Takes the note at (x, y) off, and adds what the crossing counts for to the sum so far. An open crossing hands the sum back as it came: so it costs
+// a look at its byte, and no sums of zeros.
+fn settle(s: &mut [u8], w: usize, x: usize, y: usize, sum: Labelled) -> Labelled
+    requires { ⌜ Summing w x y (now s) sum ⌝ }
+    ensures { λ r. ⌜ Settled w x y (now (s .entry)) (now (s .exit)) sum r ⌝ }
 {
     let i = y * w + x;
     let b = s[i];
     if b == 0 {
-        return counts(0, 0, 0);
+        return sum;
     }
     if 2 < b {
         s[i] = 0;
-        return counts(0, 0, 0);
+        return sum;
     }
     let lowest = corner(s, w, x, y);
     if b == 1 {
-        return counts(1, 0, lowest);
+        return plus(sum, counts(1, 0, lowest));
     }
-    counts(0, 1, lowest)
+    plus(sum, counts(0, 1, lowest))
 }
 
 // Settles row y: what its crossings count for.
@@ -99,8 +100,7 @@ fn settle_row(s: &mut [u8], w: usize, y: usize) -> Labelled
     let mut sum = counts(0, 0, 0);
     let mut x = 0;
     while x < w {
-        let one = settle(s, w, x, y);
-        sum = plus(sum, one);
+        sum = settle(s, w, x, y, sum);
         x += 1;
     }
     sum

@@ -6,10 +6,11 @@ use native.Mathlib.Omega.{arith}
 use lib.ListN.{length}
 use Rattle.field.specs.Map.{number, at}
 use Rattle.labels.specs.declared.Labelled.{Labelled}
-use Rattle.labels.specs.Settling.{counted, worth, sumOf, total, Adding, Turned, Settling, Settled, SettlingRow, SettledRow, SettlingAll, SettledAll}
+use Rattle.labels.specs.Settling.{counted, worth, sumOf, total, Adding, Turned}
+use Rattle.labels.specs.Settling.{Settling, Summing, Settled, SettlingRow, SettledRow, SettlingAll, SettledAll}
 use Rattle.labels.proofs.Laws.Bytes.{row-ends}
 use Rattle.labels.proofs.Laws.Settling.{turned-none, turned-one, turned-on, turned-passed, turned-worth}
-use Rattle.labels.proofs.Laws.Totals.{total-none, total-next, total-same, Most, most-at, total-most, worth-most, most-adding}
+use Rattle.labels.proofs.Laws.Totals.{total-none, total-next, total-same, Most, most-at, total-most, worth-most, most-one, most-adding}
 
 turned-at : {s t : List ℕ} {i j k l : ℕ} → i ≡ k → j ≡ l → Turned s t i j → Turned s t k l
 turned-at e f T = rw (← e, ← f) T
@@ -29,28 +30,26 @@ row-start w y s e =
     record { in-row = omega arith; turned = turned-at refl (omega arith) (turned-none s (y * w)); counts = e ∙ sym (total-none (λ i. worth s w i y)) }
 
 module _ {w y x : ℕ} {s t : List ℕ} {r : Labelled} (p : SettlingRow w y s) (T : RowTo w y s t r x) where
-  pub row-settling : x < w → Settling w x y t
+  row-settling : x < w → Settling w x y t
   row-settling l = record { in-x = l; in-sheet = omega (arith, p .in-sheet, T .turned .size); passed = turned-passed (T .turned) (p .passed) }
 
-  module _ {u : List ℕ} {a : Labelled} (S : Settled w x y t u a) where
-    one-is : a ≡ worth s w x y
-    one-is = S .counts ∙ turned-worth (T .turned) w x y
+  row-room : x + 1 < 2 ^ 64 → Adding r (counted 1 1 1)
+  row-room l =
+      most-adding {m = x} {n = 1} (rw (T .counts) (most-at (omega arith) (total-most x 1 (λ i. worth s w i y) (λ i. worth-most s w i y)))) most-one l
 
-    pub row-adding : x + 1 < 2 ^ 64 → Adding r a
-    row-adding l =
-        most-adding {m = x} {n = 1} (rw (T .counts) (most-at (omega arith) (total-most x 1 (λ i. worth s w i y) (λ i. worth-most s w i y))))
-        (rw one-is (worth-most s w x y)) l
+  pub row-summing : x < w → w < 2 ^ 64 → Summing w x y t r
+  row-summing l m = record { place = row-settling l; room = row-room (omega arith) }
 
-    pub row-next : {q : Labelled} → x < w → q ≡ sumOf r a → RowTo w y s u q (x + 1)
-    row-next l e =
-        record {
-          in-row = omega arith;
-          turned =
-              turned-at {j = number w x y + 1} refl (omega arith)
-              (turned-on (omega arith) (omega arith) (T .turned)
-              (rw (S .turned) (turned-one t (number w x y) (omega (arith, p .in-sheet, T .turned .size)))));
-          counts = counts-next x (λ i. worth s w i y) (T .counts) one-is e;
-        }
+  pub row-next : {u : List ℕ} {q : Labelled} → x < w → Settled w x y t u r q → RowTo w y s u q (x + 1)
+  row-next l S =
+      record {
+        in-row = omega arith;
+        turned =
+            turned-at {j = number w x y + 1} refl (omega arith)
+            (turned-on (omega arith) (omega arith) (T .turned)
+            (rw (S .turned) (turned-one t (number w x y) (omega (arith, p .in-sheet, T .turned .size)))));
+        counts = counts-next x (λ i. worth s w i y) (T .counts) (turned-worth (T .turned) w x y) (S .counts);
+      }
 
 pub row-end : {w y x : ℕ} {s t : List ℕ} {r : Labelled} → x ≡ w → RowTo w y s t r x → SettledRow w y s t r
 row-end e T = record { turned = rw e at (T .turned); counts = rw e at (T .counts) }

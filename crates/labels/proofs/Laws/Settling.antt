@@ -12,7 +12,7 @@ use Rattle.field.specs.Map.{number, at}
 use Rattle.labels.specs.declared.Labelled.{Labelled}
 use Rattle.labels.specs.Work.{Free}
 use Rattle.labels.specs.Gathering.{settled}
-use Rattle.labels.specs.Settling.{counted, rockBit, shutBit, closedBit, westBit, southBit, worth, Passed, Turned}
+use Rattle.labels.specs.Settling.{counted, rockBit, shutBit, closedBit, westBit, southBit, worth, sumOf, Passed, Turned}
 use Rattle.labels.proofs.Laws.Bytes.{shown-free}
 use Rattle.labels.proofs.Laws.Bits.{rock-one, rock-none, shut-one, shut-none, closed-one, closed-none}
 use Rattle.labels.proofs.Laws.Draining.{settled-low, settled-high}
@@ -120,13 +120,21 @@ set-blank s i l = ap (set s i) (sym (settled-high (getD s i 0) l))
 labelled-same : {a b : Labelled} → a .rocks ≡ b .rocks → a .shut ≡ b .shut → a .groups ≡ b .groups → a ≡ b
 labelled-same p q r = λ i. record { rocks = p i; shut = q i; groups = r i }
 
+-- Nothing added.
+sum-none : (a : Labelled) → a ≡ sumOf a (counted 0 0 0)
+unfolding sumOf
+sum-none a = labelled-same (omega arith) (omega arith) (omega arith)
+
 -- What an open crossing, a rock and a shut crossing count for.
 module _ (s : List ℕ) (w x y : ℕ) where
-  pub worth-open : Free (at s w x y) → counted 0 0 0 ≡ worth s w x y
+  worth-open : Free (at s w x y) → counted 0 0 0 ≡ worth s w x y
   unfolding worth
   worth-open f =
       labelled-same (sym (rock-none (at s w x y) (λ e. shown-free (at s w x y) (omega arith) f)))
       (sym (shut-none (at s w x y) (λ e. shown-free (at s w x y) (omega arith) f))) (omega (arith, closed-none (at s w x y) f))
+
+  pub sum-open : (a : Labelled) → Free (at s w x y) → a ≡ sumOf a (worth s w x y)
+  sum-open a f = sum-none a ∙ ap (sumOf a) (worth-open f)
 
   module _ (n : ℕ) (e : n ≡ 1 - (westBit s w x y + southBit s w x y)) where
     pub worth-rock : at s w x y ≡ 1 → counted 1 0 n ≡ worth s w x y

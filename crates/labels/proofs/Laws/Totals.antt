@@ -44,9 +44,16 @@ pub worth-most : (s : List ℕ) (w x y : ℕ) → Most 1 (worth s w x y)
 unfolding worth rockBit shutBit closedBit
 worth-most s w x y = record { rocks = bit-le (eqb (at s w x y) 1); shut = bit-le (eqb (at s w x y) 2); groups = omega arith }
 
+pub most-one : Most 1 (counted 1 1 1)
+most-one = record { rocks = omega arith; shut = omega arith; groups = omega arith }
+
 -- So the sums fit.
 pub most-adding : {m n : ℕ} {a b : Labelled} → Most m a → Most n b → m + n < 2 ^ 64 → Adding a b
 most-adding p q l = omega (arith, p, q)
+
+-- One crossing counts for at most 1 of each.
+pub room-adding : {a b c : Labelled} → Adding a (counted 1 1 1) → b ≡ c → Most 1 c → Adding a b
+room-adding p e q = rw e (omega (arith, p, q))
 
 -- The three by themselves.
 pub total-rocks : (n : ℕ) (f : ℕ → Labelled) → total n f .rocks ≡ sumTo n (λ k. f k .rocks)

@@ -1,9 +1,11 @@
 -- `settling::settle` meets its contract: each way through it is one kind of byte.
-use mathlib.Core.Path.{_∙_}
+use mathlib.Core.Path.{ap, _∙_}
 use mathlib.Core.Logic.{inl, inr}
 use native.Mathlib.Omega.{arith}
 use Rattle.field.specs.Map.{number}
-use Rattle.labels.proofs.Laws.Settling.{set-settled, set-blank, worth-open, worth-rock, worth-shut}
+use Rattle.labels.specs.Settling.{sumOf}
+use Rattle.labels.proofs.Laws.Settling.{set-settled, set-blank, sum-open, worth-rock, worth-shut}
+use Rattle.labels.proofs.Laws.Totals.{room-adding}
 use borrow.Author.Needs.{needs}
 use Rattle.labels.proofs.settling.settle.Statement.{statement}
 use Rattle.labels.proofs.settling.settle.Tie as tie
@@ -17,57 +19,55 @@ add-i c = search needs
 slice-read-b : tie.Need-slice-read-b
 slice-read-b c = search needs
 
-counts-requires : tie.Need-counts-requires
-counts-requires c κs = search needs
-
 returns : tie.Need-returns
-returns c = record { turned = set-settled _ _ (omega arith); counts = c .counts .ensures ∙ worth-open _ _ _ _ (inl (c .before .if1 .taken)) }
+returns c = record { turned = set-settled _ _ (omega arith); counts = sum-open _ _ _ _ _ (inl (c .if1 .taken)) }
 
 slice-write-s : tie.Need-slice-write-s
 slice-write-s c = search needs
-
-counts-requires-2 : tie.Need-counts-requires-2
-counts-requires-2 c κs = search needs
 
 same-length : tie.Need-same-length
 same-length c = search needs
 
 returns-2 : tie.Need-returns-2
 returns-2 c =
-    let a = c .before .before .before .before .before .args in
+    let a = c .before .before .before .before .args in
     record {
-      turned = set-blank (a .s .now) (number (a .w) (a .x) (a .y)) (c .before .if2 .taken);
-      counts = c .counts2 .ensures ∙ worth-open _ _ _ _ (inr (c .before .if2 .taken));
+      turned = set-blank (a .s .now) (number (a .w) (a .x) (a .y)) (c .if2 .taken);
+      counts = sum-open _ _ _ _ _ (inr (c .if2 .taken));
     }
 
 corner-requires : tie.Need-corner-requires
 corner-requires c κs = search needs
 
-counts-requires-3 : tie.Need-counts-requires-3
-counts-requires-3 c κs = search needs
+counts-requires : tie.Need-counts-requires
+counts-requires c κs = search needs
+
+plus-requires : tie.Need-plus-requires
+plus-requires c κs =
+    room-adding (c .before .before .before .before .before .before .before .before .pre .room) (c .counts .ensures) (omega arith)
 
 same-length-2 : tie.Need-same-length-2
 same-length-2 c = search needs
 
 returns-3 : tie.Need-returns-3
 returns-3 c =
-    record {
-      turned = set-settled _ _ (omega arith);
-      counts = c .counts3 .ensures ∙ worth-rock _ _ _ _ _ (c .before .before .corner .ensures) (c .before .if3 .taken);
-    }
+    let e = worth-rock _ _ _ _ _ (c .before .before .before .corner .ensures) (c .before .before .if3 .taken) in
+    record { turned = set-settled _ _ (omega arith); counts = c .plus .ensures ∙ ap (sumOf _) (c .before .counts .ensures ∙ e) }
 
-counts-requires-4 : tie.Need-counts-requires-4
-counts-requires-4 c κs = search needs
+counts-requires-2 : tie.Need-counts-requires-2
+counts-requires-2 c κs = search needs
+
+plus-requires-2 : tie.Need-plus-requires-2
+plus-requires-2 c κs =
+    room-adding (c .before .before .before .before .before .before .before .before .pre .room) (c .counts2 .ensures) (omega arith)
 
 same-length-3 : tie.Need-same-length-3
 same-length-3 c = search needs
 
 returns-4 : tie.Need-returns-4
 returns-4 c =
-    record {
-      turned = set-settled _ _ (omega arith);
-      counts = c .counts4 .ensures ∙ worth-shut _ _ _ _ _ (c .before .before .corner .ensures) (omega arith);
-    }
+    let e = worth-shut _ _ _ _ _ (c .before .before .before .corner .ensures) (omega arith) in
+    record { turned = set-settled _ _ (omega arith); counts = c .plus2 .ensures ∙ ap (sumOf _) (c .before .counts2 .ensures ∙ e) }
 
 pub settle-spec : {M : Type 1} → statement M
 settle-spec =
@@ -76,16 +76,16 @@ settle-spec =
     mul-i
     add-i
     slice-read-b
-    counts-requires
     returns
     slice-write-s
-    counts-requires-2
     same-length
     returns-2
     corner-requires
-    counts-requires-3
+    counts-requires
+    plus-requires
     same-length-2
     returns-3
-    counts-requires-4
+    counts-requires-2
+    plus-requires-2
     same-length-3
     returns-4)

@@ -2,7 +2,7 @@
 use Prim.Native.Nat.{_-_}
 use native.Mathlib.Omega.{arith}
 use borrow.Author.Needs.{needs}
-use Rattle.labels.proofs.Laws.Rows.{RowTo, row-start, row-settling, row-adding, row-next, row-end}
+use Rattle.labels.proofs.Laws.Rows.{RowTo, row-start, row-summing, row-next, row-end}
 use Rattle.labels.proofs.settling.settle_row.Statement.{statement}
 use Rattle.labels.proofs.settling.settle_row.Tie as tie
 
@@ -19,12 +19,8 @@ loop-holds : tie.Need-loop-holds Inv-loop μ-loop
 loop-holds c = row-start _ _ _ (c .counts .ensures)
 
 settle-requires : tie.Need-settle-requires Inv-loop μ-loop
-settle-requires c κs = row-settling (c .before .before .before .before .before .pre) (c .before .before .loop .inv) (c .before .loop-test .taken)
-
-plus-requires : tie.Need-plus-requires Inv-loop μ-loop
-plus-requires c κs =
-    row-adding (c .before .before .before .before .before .before .before .before .pre) (c .before .before .before .before .before .loop .inv)
-    (c .before .before .settle .ensures) (omega arith)
+settle-requires c κs =
+    row-summing (c .before .before .before .before .before .pre) (c .before .before .loop .inv) (c .before .loop-test .taken) (omega arith)
 
 add-x : tie.Need-add-x Inv-loop μ-loop
 add-x c = omega arith
@@ -34,9 +30,8 @@ loop-less c = omega arith
 
 loop-again : tie.Need-loop-again Inv-loop μ-loop
 loop-again c =
-    let l = c .before .before .before .before .before .before .loop in
-    row-next (c .before .before .before .before .before .before .before .before .before .pre) (l .inv) (c .before .before .before .settle .ensures)
-    (c .before .before .before .before .before .loop-test .taken) (c .plus .ensures)
+    row-next (c .before .before .before .before .before .before .before .before .pre) (c .before .before .before .before .before .loop .inv)
+    (c .before .before .before .before .loop-test .taken) (c .before .before .settle .ensures)
 
 same-length : tie.Need-same-length Inv-loop μ-loop
 same-length c = c .before .loop .inv .turned .size
@@ -47,15 +42,4 @@ returns c = row-end (omega arith) (c .before .loop .inv)
 pub settle-row-spec : {M : Type 1} → statement M
 settle-row-spec =
     tie.close
-    (tie.spec
-    Inv-loop
-    μ-loop
-    counts-requires
-    loop-holds
-    settle-requires
-    plus-requires
-    add-x
-    loop-less
-    loop-again
-    same-length
-    returns)
+    (tie.spec Inv-loop μ-loop counts-requires loop-holds settle-requires add-x loop-less loop-again same-length returns)
