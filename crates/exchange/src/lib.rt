@@ -1,5 +1,5 @@
-// The parts of the two map-file calls that need no list of records: writing from a sheet on which the rocks are stamped, and reading into slices of ids and
-// places.
+// The parts of the two map-file calls that need no list of records: writing from a sheet on which the rocks are stamped, and reading into slices of
+// ids and places.
 use field::Marker;
 use reader::Reading;
 use writer::Wrote;
