@@ -29,6 +29,13 @@ fn plus(a: Labelled, b: Labelled) -> Labelled
     }
 }
 
+// A byte as a number.
+fn wide(b: u8) -> usize
+    ensures { λ r. ⌜ r ≡ b ⌝ }
+{
+    b as usize
+}
+
 // 1 where the west neighbour of (x, y) is closed, and else 0; and the same of its south neighbour. Both are settled before (x, y) is.
 fn closed_west(s: &[u8], w: usize, x: usize, y: usize) -> usize
     requires { ⌜ Settling w x y (now s) ⌝ }
@@ -71,7 +78,8 @@ fn corner(s: &[u8], w: usize, x: usize, y: usize) -> usize
 }
 
 // Takes the note at (x, y) off, and adds what the crossing counts for to the sum so far. An open crossing hands the sum back as it came: so it costs
-// a look at its byte, and no sums of zeros.
+// a look at its byte, and no sums of zeros. A closed one is 1 for a rock and 2 where it is shut: these are counted by a difference, since no processor
+// can foresee which of the two comes next.
 fn settle(s: &mut [u8], w: usize, x: usize, y: usize, sum: Labelled) -> Labelled
     requires { ⌜ Summing w x y (now s) sum ⌝ }
     ensures { λ r. ⌜ Settled w x y (now (s .entry)) (now (s .exit)) sum r ⌝ }
@@ -85,11 +93,9 @@ fn settle(s: &mut [u8], w: usize, x: usize, y: usize, sum: Labelled) -> Labelled
         s[i] = 0;
         return sum;
     }
+    let kind = wide(b);
     let lowest = corner(s, w, x, y);
-    if b == 1 {
-        return plus(sum, counts(1, 0, lowest));
-    }
-    plus(sum, counts(0, 1, lowest))
+    plus(sum, counts(2 - kind, kind - 1, lowest))
 }
 
 // Settles row y: what its crossings count for.

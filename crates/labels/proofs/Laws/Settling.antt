@@ -10,7 +10,7 @@ use lib.ListN.{length, getD, set, length-set}
 use lib.Seq.{getD-set-same, getD-set-other, set-getD}
 use Rattle.field.specs.Map.{number, at}
 use Rattle.labels.specs.declared.Labelled.{Labelled}
-use Rattle.labels.specs.Work.{Free}
+use Rattle.labels.specs.Work.{Shown, Free}
 use Rattle.labels.specs.Gathering.{settled}
 use Rattle.labels.specs.Settling.{counted, rockBit, shutBit, closedBit, westBit, southBit, worth, sumOf, Passed, Turned}
 use Rattle.labels.proofs.Laws.Bytes.{shown-free}
@@ -137,12 +137,20 @@ module _ (s : List ℕ) (w x y : ℕ) where
   sum-open a f = sum-none a ∙ ap (sumOf a) (worth-open f)
 
   module _ (n : ℕ) (e : n ≡ 1 - (westBit s w x y + southBit s w x y)) where
-    pub worth-rock : at s w x y ≡ 1 → counted 1 0 n ≡ worth s w x y
+    worth-rock : at s w x y ≡ 1 → counted 1 0 n ≡ worth s w x y
     unfolding worth
     worth-rock f =
         labelled-same (sym (rock-one (at s w x y) f)) (sym (shut-none (at s w x y) (omega arith))) (omega (arith, closed-one (at s w x y) (omega arith)))
 
-    pub worth-shut : at s w x y ≡ 2 → counted 0 1 n ≡ worth s w x y
+    worth-shut : at s w x y ≡ 2 → counted 0 1 n ≡ worth s w x y
     unfolding worth
     worth-shut f =
         labelled-same (sym (rock-none (at s w x y) (omega arith))) (sym (shut-one (at s w x y) f)) (omega (arith, closed-one (at s w x y) (omega arith)))
+
+    -- A closed crossing, by its byte.
+    pub worth-closed : (k : ℕ) → k ≡ at s w x y → Shown (at s w x y) → counted (2 - k) (k - 1) n ≡ worth s w x y
+    worth-closed k f l = go (decLt 1 k)
+      where
+        go : Dec (1 < k) → counted (2 - k) (k - 1) n ≡ worth s w x y
+        go (yes m) = let p : k ≡ 2 = omega arith in rw p (worth-shut (omega arith))
+        go (no m) = let p : k ≡ 1 = omega arith in rw p (worth-rock (omega arith))

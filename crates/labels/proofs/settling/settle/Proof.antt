@@ -4,7 +4,7 @@ use mathlib.Core.Logic.{inl, inr}
 use native.Mathlib.Omega.{arith}
 use Rattle.field.specs.Map.{number}
 use Rattle.labels.specs.Settling.{sumOf}
-use Rattle.labels.proofs.Laws.Settling.{set-settled, set-blank, sum-open, worth-rock, worth-shut}
+use Rattle.labels.proofs.Laws.Settling.{set-settled, set-blank, sum-open, worth-closed}
 use Rattle.labels.proofs.Laws.Totals.{room-adding}
 use borrow.Author.Needs.{needs}
 use Rattle.labels.proofs.settling.settle.Statement.{statement}
@@ -36,8 +36,17 @@ returns-2 c =
       counts = sum-open _ _ _ _ _ (inr (c .if2 .taken));
     }
 
+wide-requires : tie.Need-wide-requires
+wide-requires c κs = search needs
+
 corner-requires : tie.Need-corner-requires
 corner-requires c κs = search needs
+
+sub-counts : tie.Need-sub-counts
+sub-counts c = omega arith
+
+sub-counts-2 : tie.Need-sub-counts-2
+sub-counts-2 c = omega arith
 
 counts-requires : tie.Need-counts-requires
 counts-requires c κs = search needs
@@ -51,23 +60,8 @@ same-length-2 c = search needs
 
 returns-3 : tie.Need-returns-3
 returns-3 c =
-    let e = worth-rock _ _ _ _ _ (c .before .before .before .corner .ensures) (c .before .before .if3 .taken) in
+    let e = worth-closed _ _ _ _ _ (c .before .before .corner .ensures) _ (c .before .before .before .before .wide .ensures) (omega arith) in
     record { turned = set-settled _ _ (omega arith); counts = c .plus .ensures ∙ ap (sumOf _) (c .before .counts .ensures ∙ e) }
-
-counts-requires-2 : tie.Need-counts-requires-2
-counts-requires-2 c κs = search needs
-
-plus-requires-2 : tie.Need-plus-requires-2
-plus-requires-2 c κs =
-    room-adding (c .before .before .before .before .before .before .before .before .pre .room) (c .counts2 .ensures) (omega arith)
-
-same-length-3 : tie.Need-same-length-3
-same-length-3 c = search needs
-
-returns-4 : tie.Need-returns-4
-returns-4 c =
-    let e = worth-shut _ _ _ _ _ (c .before .before .before .corner .ensures) (omega arith) in
-    record { turned = set-settled _ _ (omega arith); counts = c .plus2 .ensures ∙ ap (sumOf _) (c .before .counts2 .ensures ∙ e) }
 
 pub settle-spec : {M : Type 1} → statement M
 settle-spec =
@@ -80,12 +74,11 @@ settle-spec =
     slice-write-s
     same-length
     returns-2
+    wide-requires
     corner-requires
+    sub-counts
+    sub-counts-2
     counts-requires
     plus-requires
     same-length-2
-    returns-3
-    counts-requires-2
-    plus-requires-2
-    same-length-3
-    returns-4)
+    returns-3)
