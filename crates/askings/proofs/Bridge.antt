@@ -9,11 +9,12 @@ use Rattle.field.specs.Workings.Sheet.{Marked}
 use Rattle.field.specs.Workings.Labelling.{label-sheet-draws}
 use Rattle.field.specs.Workings.SameLaws.{Alike, alike-back, open-same, assured-same, answers-same, has-drive-same, region-sheet-same, driven-same}
 use Rattle.distances.specs.Promise.{Fits}
-use Rattle.askings.specs.declared.Assurance.{Assurance}
-use Rattle.askings.specs.declared.Homeward.{Homeward}
-use Rattle.askings.specs.declared.Drove.{Drove}
-use Rattle.askings.specs.Promise.{Stones, ClosedOn, AnEndClosed, BothOpen, AssuredAnswer, HopsAnswer, hops, RegionAnswer, nowhere, somewhere}
-use Rattle.askings.specs.Promise.{DriveAnswer, no-region, short, filled}
+use Rattle.answers.specs.declared.Assurance.{Assurance}
+use Rattle.answers.specs.declared.Homeward.{Homeward}
+use Rattle.answers.specs.declared.Drove.{Drove}
+use Rattle.answers.specs.Promise.{AnEndClosed, BothOpen, AssuredAnswer, HopsAnswer, hops, RegionAnswer, nowhere, somewhere}
+use Rattle.answers.specs.Promise.{DriveAnswer, no-region, short, filled}
+use Rattle.askings.specs.Promise.{Stones, ClosedOn}
 
 -- s is the sheet stamped, t the label sheet that came of it.
 module _ {w h : ℕ} {s t : List ℕ} (sheet : LabelSheet (Stones w h s) w h t) where

@@ -1,3 +1,3 @@
--- The laws behind the functions' proofs: first what is told over a label sheet's marks, then how that is carried over to the closed crossings.
-pub mod Answering
+-- The laws behind the functions' proofs: how what is told over a label sheet's marks is carried over to the closed crossings.
+pub mod Routing
 pub mod Bridge

@@ -1,14 +1,16 @@
 // The second part of each asking, over a lent label sheet on which the rocks are stamped. n is the refusal that was found before, or 0. At a refusal
 // nothing lent is touched and the answer is the number with zeros. Else the sheet is labelled first, and then the question is answered over it.
-mod answers; // answers.rt: the questions over a label sheet
-mod refusals; // refusals.rt: their numbers
-
-use refusals::SUCCESS;
+use answers::Assurance;
+use answers::Drove;
+use answers::Homeward;
 ghost use Rattle.askings.specs.Promise.{MayLabel, MayAsk, MayAskTwo, MayMeasure, MayDrive};
 ghost use Rattle.askings.specs.Promise.{LabelRest, DistancesRest, MeasureRest, AssuredRest, HopRest, RegionRest, DriveRest, RouteRest};
 
 // n where no refusal was found before.
 const UNREFUSED: u8 = 0;
+
+// The number on success.
+const SUCCESS: u8 = 0;
 
 // The numbers of rocks' crossings, shut crossings and groups, or the refusal.
 #[repr(C)]
@@ -24,31 +26,6 @@ pub struct Labelling {
 pub struct Four {
     pub refusal: u8,
     pub four: [u8; 4],
-}
-
-// Whether home is assured, or the refusal.
-#[repr(C)]
-pub struct Assurance {
-    pub refusal: u8,
-    pub assured: bool,
-}
-
-// How many hops homeward are permitted, none at home, and where they lead, the east-west one first; or the refusal.
-#[repr(C)]
-pub struct Homeward {
-    pub refusal: u8,
-    pub hops: u8,
-    pub x: usize,
-    pub y: usize,
-    pub a: usize,
-    pub b: usize,
-}
-
-// How many crossings of the route were filled, or the refusal.
-#[repr(C)]
-pub struct Drove {
-    pub refusal: u8,
-    pub length: usize,
 }
 
 // Labels the sheet, and hands back the numbers of rocks' crossings, shut crossings and groups.

@@ -19,15 +19,15 @@ use Rattle.markers.specs.List.{Entered, Cleared, inUse}
 use Rattle.markers.specs.Promise.{marker}
 use Rattle.mapfile.specs.File.{MapFile, markersOf, FileFault, NoSlot}
 use Rattle.mapfile.specs.Written.{Written}
-use Rattle.askings.specs.Promise.{homeward, no-hop}
+use Rattle.answers.specs.Promise.{homeward, no-hop}
 use Rattle.calls.specs.Rules
 use Rattle.calls.specs.Rules.{Gives, RocksOf, ClosedBy}
 use Rattle.calls.specs.declared.Counted.{Counted}
 use Rattle.askings.specs.declared.Labelling.{Labelling}
 use Rattle.askings.specs.declared.Four.{Four}
-use Rattle.askings.specs.declared.Assurance.{Assurance}
-use Rattle.askings.specs.declared.Homeward.{Homeward}
-use Rattle.askings.specs.declared.Drove.{Drove}
+use Rattle.answers.specs.declared.Assurance.{Assurance}
+use Rattle.answers.specs.declared.Homeward.{Homeward}
+use Rattle.answers.specs.declared.Drove.{Drove}
 use Rattle.exchange.specs.declared.ReadMap.{ReadMap}
 use Rattle.exchange.specs.declared.WroteMap.{WroteMap}
 

@@ -37,9 +37,9 @@ use Rattle.calls.specs.DriveCalls
 use Rattle.calls.specs.DriveCalls.{BetweenOpen}
 use Rattle.calls.specs.declared.Counted.{Counted}
 use Rattle.askings.specs.declared.Labelling.{Labelling}
-use Rattle.askings.specs.declared.Assurance.{Assurance}
-use Rattle.askings.specs.declared.Homeward.{Homeward}
-use Rattle.askings.specs.declared.Drove.{Drove}
+use Rattle.answers.specs.declared.Assurance.{Assurance}
+use Rattle.answers.specs.declared.Homeward.{Homeward}
+use Rattle.answers.specs.declared.Drove.{Drove}
 
 -- The list, after any sequence of enter and clear calls.
 module _ {w h : ℕ} {list : List Marker} {count : ℕ} (calls : Calls w h list count) where

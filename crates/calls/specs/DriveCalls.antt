@@ -16,7 +16,7 @@ use Rattle.calls.specs.Rules.{ClosedBy, Misfit}
 use Rattle.calls.specs.RuleLaws.{sheets-fit}
 use Rattle.calls.specs.Calls.{RegionCall, DriveCall}
 use Rattle.calls.specs.Exactly.{region-exactly, drive-exactly}
-use Rattle.askings.specs.declared.Drove.{Drove}
+use Rattle.answers.specs.declared.Drove.{Drove}
 
 -- What is asked: a region or a drive between open ends, with nothing amiss in the map, the sheets and the list.
 pub record BetweenOpen (list : List Marker) (count w h sx sy dx dy : ℕ) (labels region : List ℕ) : Type 0 where

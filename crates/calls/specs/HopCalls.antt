@@ -18,11 +18,11 @@ use Rattle.markers.specs.List.{WellFormed}
 use Rattle.calls.specs.Rules
 use Rattle.calls.specs.Rules.{Gives, gives-one, ClosedBy}
 use Rattle.calls.specs.RuleLaws.{gives-none, none-gives, sheets-fit, sides-hold, formed-holds}
-use Rattle.askings.specs.Promise.{homeward}
+use Rattle.answers.specs.Promise.{homeward}
 use Rattle.calls.specs.Calls.{AssuredCall, HopCall}
 use Rattle.calls.specs.Sequences.{Names, SaysThere, Journey, start, move}
-use Rattle.askings.specs.declared.Assurance.{Assurance}
-use Rattle.askings.specs.declared.Homeward.{Homeward}
+use Rattle.answers.specs.declared.Assurance.{Assurance}
+use Rattle.answers.specs.declared.Homeward.{Homeward}
 
 -- What a cart knows whose home is assured: the map, the list and the assurance.
 pub record Assurances (list : List Marker) (count w h hx hy x y : ℕ) : Type 0 where

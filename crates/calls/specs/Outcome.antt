@@ -23,7 +23,7 @@ use Rattle.mapfile.specs.WrittenLaws.{written-one}
 use Rattle.calls.specs.Rules
 use Rattle.calls.specs.Rules.{gives-one, RocksOf, ClosedBy}
 use Rattle.calls.specs.RuleLaws.{gives-none, formed-holds}
-use Rattle.askings.specs.Promise.{homeward, no-hop}
+use Rattle.answers.specs.Promise.{homeward, no-hop}
 use Rattle.calls.specs.Calls.{
   EnterCall,
   ClearCall,
@@ -54,9 +54,9 @@ use Rattle.calls.specs.OutcomeLaws.{
 use Rattle.calls.specs.declared.Counted.{Counted}
 use Rattle.askings.specs.declared.Labelling.{Labelling}
 use Rattle.askings.specs.declared.Four.{Four}
-use Rattle.askings.specs.declared.Assurance.{Assurance}
-use Rattle.askings.specs.declared.Homeward.{Homeward}
-use Rattle.askings.specs.declared.Drove.{Drove}
+use Rattle.answers.specs.declared.Assurance.{Assurance}
+use Rattle.answers.specs.declared.Homeward.{Homeward}
+use Rattle.answers.specs.declared.Drove.{Drove}
 use Rattle.exchange.specs.declared.ReadMap.{ReadMap}
 use Rattle.exchange.specs.declared.WroteMap.{WroteMap}
 

@@ -21,8 +21,8 @@ use Rattle.calls.specs.Calls.{Early, LabelsAfter, RegionAfter}
 use Rattle.calls.specs.declared.Counted.{Counted}
 use Rattle.askings.specs.declared.Labelling.{Labelling}
 use Rattle.askings.specs.declared.Four.{Four}
-use Rattle.askings.specs.declared.Assurance.{Assurance}
-use Rattle.askings.specs.declared.Drove.{Drove}
+use Rattle.answers.specs.declared.Assurance.{Assurance}
+use Rattle.answers.specs.declared.Drove.{Drove}
 use Rattle.exchange.specs.declared.ReadMap.{ReadMap}
 use Rattle.exchange.specs.declared.WroteMap.{WroteMap}
 

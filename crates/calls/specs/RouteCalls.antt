@@ -7,7 +7,7 @@ use lib.ListN.{take}
 use Rattle.field.specs.declared.Marker.{Marker}
 use Rattle.calls.specs.Calls.{DriveCall, RouteCall}
 use Rattle.calls.specs.Outcome.{route-one}
-use Rattle.askings.specs.declared.Drove.{Drove}
+use Rattle.answers.specs.declared.Drove.{Drove}
 
 module _ {list : List Marker} {count w h sx sy dx dy : ℕ} {labels region route labels′ region′ route′ : List ℕ} {state state′ : ℕ} {r : Drove}
     (c : DriveCall list count w h sx sy dx dy labels region route state labels′ region′ route′ state′ r) where

@@ -6,7 +6,7 @@ use Prim.Native.Nat.{ℕ, _+_, _≤_}
 use Rattle.field.specs.declared.Marker.{Marker}
 use Rattle.calls.specs.Calls.{EnterCall, ClearCall, HopCall}
 use Rattle.calls.specs.declared.Counted.{Counted}
-use Rattle.askings.specs.declared.Homeward.{Homeward}
+use Rattle.answers.specs.declared.Homeward.{Homeward}
 
 -- The count with which the caller goes on: the new one that was handed back, or where the call was refused the old one.
 pub record CountAfter (count : ℕ) (r : Counted) (next : ℕ) : Type 0 where

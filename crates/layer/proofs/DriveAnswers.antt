@@ -16,9 +16,10 @@ use Rattle.field.specs.Drives.{HasDrive, RegionSheet}
 use Rattle.field.specs.Workings.Sheet.{Marked}
 use Rattle.field.specs.Workings.DriveLaws.{has-drive-open, has-drive-open-end}
 use Rattle.field.specs.Workings.SameLaws.{alike-back, open-same, assured-same, answers-same, has-drive-same, region-sheet-same, driven-same}
-use Rattle.askings.specs.declared.Homeward.{Homeward}
-use Rattle.askings.specs.declared.Drove.{Drove}
-use Rattle.askings.specs.Promise.{MayDrive, no-hop, homeward, HopRest, HopsAnswer, RegionRest, RegionAnswer, DriveRest, DriveAnswer, RouteRest, end-is-closed, no-home, hops, nowhere, somewhere, no-region, short, filled}
+use Rattle.answers.specs.declared.Homeward.{Homeward}
+use Rattle.answers.specs.declared.Drove.{Drove}
+use Rattle.answers.specs.Promise.{no-hop, homeward, HopsAnswer, RegionAnswer, DriveAnswer, end-is-closed, no-home, hops, nowhere, somewhere, no-region, short, filled}
+use Rattle.askings.specs.Promise.{MayDrive, HopRest, RegionRest, DriveRest, RouteRest}
 use Rattle.calls.specs.Rules
 use Rattle.calls.specs.Rules.{Rule, Gives, ClosedBy}
 use Rattle.judging.specs.Judging.{Fits}

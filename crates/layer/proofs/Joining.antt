@@ -16,7 +16,7 @@ use Rattle.field.specs.Labels.{RockOn, Closed, rock, Open, Label, is-open, is-r
 use Rattle.field.specs.Workings.Sheet.{Marked}
 use Rattle.field.specs.Workings.SameLaws.{Alike, closed-same, label-sheet-same}
 use Rattle.labels.specs.Promise.{Stamped}
-use Rattle.askings.specs.Promise.{AnEndClosed, BothOpen}
+use Rattle.answers.specs.Promise.{AnEndClosed, BothOpen}
 use Rattle.calls.specs.Rules
 use Rattle.calls.specs.Rules.{Rule, Gives, Misfit, RocksOf, ClosedBy}
 use Rattle.calls.specs.RuleLaws.{None, Rises, gives-none, sides-hold, on-holds}

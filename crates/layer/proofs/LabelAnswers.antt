@@ -16,8 +16,9 @@ use Rattle.field.specs.Workings.Sheet.{Marked}
 use Rattle.field.specs.Workings.SameLaws.{alike-back, count-alike, shut-same, groups-same, distances-same, distance-sheet-same, assured-same}
 use Rattle.askings.specs.declared.Labelling.{Labelling}
 use Rattle.askings.specs.declared.Four.{Four}
-use Rattle.askings.specs.declared.Assurance.{Assurance}
-use Rattle.askings.specs.Promise.{MayLabel, MayAsk, MayAskTwo, MayMeasure, LabelRest, DistancesRest, MeasureRest, AssuredRest, AssuredAnswer, end-is-closed, yes-home, no-home}
+use Rattle.answers.specs.declared.Assurance.{Assurance}
+use Rattle.answers.specs.Promise.{AssuredAnswer, end-is-closed, yes-home, no-home}
+use Rattle.askings.specs.Promise.{MayLabel, MayAsk, MayAskTwo, MayMeasure, LabelRest, DistancesRest, MeasureRest, AssuredRest}
 use Rattle.calls.specs.Rules
 use Rattle.judging.specs.Judging.{FourFit}
 use Rattle.layer.specs.Prepared.{Prepared}

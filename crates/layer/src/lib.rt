@@ -2,10 +2,10 @@
 mod files; // files.rt: the two map-file calls
 pub mod route; // route.rt: the drive, of which a part of the route is handed back
 
-use askings::Assurance;
-use askings::Drove;
+use answers::Assurance;
+use answers::Drove;
+use answers::Homeward;
 use askings::Four;
-use askings::Homeward;
 use askings::Labelling;
 use calls::Counted;
 use field::Marker;

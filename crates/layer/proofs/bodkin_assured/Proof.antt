@@ -34,9 +34,9 @@ use denote.Triple.Statement.{Triple}
 use denote.Triple.Table.{entered, cited}
 use Rattle.field.specs.declared.Marker.{Marker}
 use Rattle.field.proofs.Marker as T
-use Rattle.askings.specs.declared.Assurance.{Assurance}
-use Rattle.askings.proofs.Assurance as R
-use Rattle.askings.proofs.Assurance.Laws as R′
+use Rattle.answers.specs.declared.Assurance.{Assurance}
+use Rattle.answers.proofs.Assurance as R
+use Rattle.answers.proofs.Assurance.Laws as R′
 use Rattle.askings.specs.Promise.{AssuredRest}
 use Rattle.askings.proofs.assured as rest
 use Rattle.askings.proofs.assured.Symbol as rest-def

@@ -36,9 +36,9 @@ use denote.Triple.Statement.{Triple}
 use denote.Triple.Table.{entered, cited}
 use Rattle.field.specs.declared.Marker.{Marker}
 use Rattle.field.proofs.Marker as T
-use Rattle.askings.specs.declared.Drove.{Drove}
-use Rattle.askings.proofs.Drove as R
-use Rattle.askings.proofs.Drove.Laws as R′
+use Rattle.answers.specs.declared.Drove.{Drove}
+use Rattle.answers.proofs.Drove as R
+use Rattle.answers.proofs.Drove.Laws as R′
 use Rattle.askings.specs.Promise.{DriveRest}
 use Rattle.askings.proofs.drive as rest
 use Rattle.askings.proofs.drive.Symbol as rest-def

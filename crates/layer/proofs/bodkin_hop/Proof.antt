@@ -34,9 +34,9 @@ use denote.Triple.Statement.{Triple}
 use denote.Triple.Table.{entered, cited}
 use Rattle.field.specs.declared.Marker.{Marker}
 use Rattle.field.proofs.Marker as T
-use Rattle.askings.specs.declared.Homeward.{Homeward}
-use Rattle.askings.proofs.Homeward as R
-use Rattle.askings.proofs.Homeward.Laws as R′
+use Rattle.answers.specs.declared.Homeward.{Homeward}
+use Rattle.answers.proofs.Homeward as R
+use Rattle.answers.proofs.Homeward.Laws as R′
 use Rattle.askings.specs.Promise.{HopRest}
 use Rattle.askings.proofs.hop as rest
 use Rattle.askings.proofs.hop.Symbol as rest-def

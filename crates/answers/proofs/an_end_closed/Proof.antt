@@ -3,8 +3,8 @@ use mathlib.Core.Path.{refl}
 use mathlib.Core.Logic.{inl, inr}
 use Rattle.drives.proofs.RegionMade.{end-closed, end-open}
 use borrow.Author.Needs.{needs}
-use Rattle.askings.proofs.answers.an_end_closed.Statement.{statement}
-use Rattle.askings.proofs.answers.an_end_closed.Tie as tie
+use Rattle.answers.proofs.an_end_closed.Statement.{statement}
+use Rattle.answers.proofs.an_end_closed.Tie as tie
 
 mark-requires : tie.Need-mark-requires
 mark-requires c κs = search needs

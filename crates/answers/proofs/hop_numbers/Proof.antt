@@ -1,8 +1,8 @@
 -- `hop_numbers` meets its contract: each case of the enum has document 01's values.
 use mathlib.Core.Path.{refl}
 use borrow.Author.Needs.{needs}
-use Rattle.askings.proofs.answers.hop_numbers.Statement.{statement}
-use Rattle.askings.proofs.answers.hop_numbers.Tie as tie
+use Rattle.answers.proofs.hop_numbers.Statement.{statement}
+use Rattle.answers.proofs.hop_numbers.Tie as tie
 
 enum-told : tie.Need-enum-told
 enum-told c = search needs

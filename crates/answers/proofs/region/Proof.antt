@@ -1,8 +1,8 @@
 -- `answers::region` meets its contract: what the region finds, as its answer.
-use Rattle.askings.proofs.Answering.{region-told}
+use Rattle.answers.proofs.Answering.{region-told}
 use borrow.Author.Needs.{needs}
-use Rattle.askings.proofs.answers.region.Statement.{statement}
-use Rattle.askings.proofs.answers.region.Tie as tie
+use Rattle.answers.proofs.region.Statement.{statement}
+use Rattle.answers.proofs.region.Tie as tie
 
 region-requires : tie.Need-region-requires
 region-requires c κs = search needs

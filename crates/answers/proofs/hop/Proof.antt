@@ -1,9 +1,9 @@
 -- `answers::hop` meets its contract: the test of the ends tells refusal 8, then the test of assurance 11, and what is left is the hop's answer.
-use Rattle.askings.specs.Promise.{HopsAnswer, hops}
-use Rattle.askings.proofs.Answering.{no-home-told}
+use Rattle.answers.specs.Promise.{HopsAnswer, hops}
+use Rattle.answers.proofs.Answering.{no-home-told}
 use borrow.Author.Needs.{needs}
-use Rattle.askings.proofs.answers.hop.Statement.{statement}
-use Rattle.askings.proofs.answers.hop.Tie as tie
+use Rattle.answers.proofs.hop.Statement.{statement}
+use Rattle.answers.proofs.hop.Tie as tie
 
 an-end-closed-requires : tie.Need-an-end-closed-requires
 an-end-closed-requires c κs = search needs

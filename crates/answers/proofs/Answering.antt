@@ -16,10 +16,10 @@ use Rattle.drives.specs.declared.Found.{Found}
 use Rattle.drives.specs.declared.Found.the-variants.{EndClosed, Nowhere, Somewhere}
 use Rattle.drives.specs.declared.Made.{Made}
 use Rattle.drives.specs.declared.Made.the-variants.{Closed, NoDrive, Short, Filled}
-use Rattle.askings.specs.declared.Homeward.{Homeward}
-use Rattle.askings.specs.declared.Drove.{Drove}
-use Rattle.askings.specs.Promise.{BothOpen, AssuredAnswer, yes-home, no-hop, HopsAnswer, RegionAnswer, nowhere, somewhere}
-use Rattle.askings.specs.Promise.{DriveAnswer, no-region, short, filled, DriveRest}
+use Rattle.answers.specs.declared.Homeward.{Homeward}
+use Rattle.answers.specs.declared.Drove.{Drove}
+use Rattle.answers.specs.Promise.{BothOpen, AssuredAnswer, yes-home, no-hop, HopsAnswer, RegionAnswer, nowhere, somewhere}
+use Rattle.answers.specs.Promise.{DriveAnswer, no-region, short, filled}
 
 -- A test that tells no.
 told-no : {P : Type 0} {b : Bool} → ((b ≡ true) ↔ P) → b ≡ false → ¬ P
@@ -68,20 +68,3 @@ drive-told Short p e f = short (p .0) (p .1) (p .2) (p .3) f e
 drive-told (Filled n after) p e f =
     let k = p .2 in
     filled (p .0) (p .1) (rw (k .crossings) at (k .fits)) (rw (k .crossings, ← f) at (k .driven)) (rw (k .crossings) at (k .rest)) (rw (k .crossings) at e)
-
--- What a drive fills is no longer than the route: at a refusal it is nothing.
-pub drove-within : {n w h sx sy dx dy z z′ : ℕ} {s g s′ g′ route route′ : List ℕ} {r : Drove}
-    → DriveRest n w h sx sy dx dy s g route z s′ g′ route′ z′ r → r .length ≤ length route
-drove-within {n} {w} {h} {sx} {sy} {dx} {dy} {z} {z′} {g = g} {g′ = g′} {route = route} {route′ = route′} {r = r} e = go (ℕ-discrete n 0)
-  where
-    long : (m : ℕ) → m ≤ length route → (k : ℕ) → r ≡ record { refusal = k; length = m } → r .length ≤ length route
-    long m l k is = subst (λ (v : Drove). v .length ≤ length route) (sym is) l
-
-    by-answer : {C : ℕ → ℕ → Type 0} → DriveAnswer w h C sx sy dx dy g route z g′ route′ z′ r → r .length ≤ length route
-    by-answer (no-region k f a kept still is) = long 0 (omega arith) k is
-    by-answer (short d c less kept still is) = long 0 (omega arith) _ is
-    by-answer (filled d c room way rest is) = long _ room _ is
-
-    go : Dec (n ≡ 0) → r .length ≤ length route
-    go (no f) = long 0 (omega arith) n (e .refused f .4)
-    go (yes k) = by-answer (e .done k .1)

@@ -1,10 +1,10 @@
 -- `answers::assured` meets its contract: the test of the ends tells refusal 8, and then the test of assurance yes or no.
 use mathlib.Core.Path.{refl}
-use Rattle.askings.specs.Promise.{AssuredAnswer}
-use Rattle.askings.proofs.Answering.{assured-told}
+use Rattle.answers.specs.Promise.{AssuredAnswer}
+use Rattle.answers.proofs.Answering.{assured-told}
 use borrow.Author.Needs.{needs}
-use Rattle.askings.proofs.answers.assured.Statement.{statement}
-use Rattle.askings.proofs.answers.assured.Tie as tie
+use Rattle.answers.proofs.assured.Statement.{statement}
+use Rattle.answers.proofs.assured.Tie as tie
 
 an-end-closed-requires : tie.Need-an-end-closed-requires
 an-end-closed-requires c κs = search needs

@@ -1,10 +1,10 @@
 -- `answers::drive` meets its contract: what asking for a drive makes, as its answer. Only where the route is filled is the state written.
 use mathlib.Core.Path.{refl}
 use Rattle.drives.specs.declared.Made.the-variants.{Closed, NoDrive, Short, Filled}
-use Rattle.askings.proofs.Answering.{drive-told}
+use Rattle.answers.proofs.Answering.{drive-told}
 use borrow.Author.Needs.{needs}
-use Rattle.askings.proofs.answers.drive.Statement.{statement}
-use Rattle.askings.proofs.answers.drive.Tie as tie
+use Rattle.answers.proofs.drive.Statement.{statement}
+use Rattle.answers.proofs.drive.Tie as tie
 
 fill-requires : tie.Need-fill-requires
 fill-requires c κs = search needs

@@ -1,21 +1,52 @@
 // The questions over a label sheet, of which only the marks count: whatever is not 0 is closed. Here the refusals that need the labels are told, and
 // what the crates below answer as an enum becomes document 01's number and values.
-use super::Assurance;
-use super::Drove;
-use super::Homeward;
-use super::refusals::END_CLOSED;
-use super::refusals::NO_DRIVE;
-use super::refusals::NOT_ASSURED;
-use super::refusals::SHORT_ROUTE;
-use super::refusals::SUCCESS;
 ghost use mathlib.Core.Path.{_≡_};
 ghost use Rattle.field.specs.Labels.{Stable};
 ghost use Rattle.field.specs.Workings.Sheet.{Marked};
 ghost use Rattle.distances.specs.Promise.{AskedHome};
 ghost use Rattle.hops.specs.Promise.{answered};
 ghost use Rattle.drives.specs.Promise.{Asked, foundNumber};
-ghost use Rattle.askings.specs.Promise.{AssuredAnswer, homeward, no-hop, HopsAnswer, RegionAnswer, DriveAnswer};
-ghost use Rattle.askings.specs.Answers.{Ends, no-crossings};
+ghost use Rattle.answers.specs.Promise.{AssuredAnswer, homeward, no-hop, HopsAnswer, RegionAnswer, DriveAnswer, Ends, no-crossings};
+
+// Document 01's refusal numbers that are told here, and 0 on success.
+const SUCCESS: u8 = 0;
+
+// Assurance, hop, region or drive asked, an end closed.
+const END_CLOSED: u8 = 8;
+
+// Region or drive asked, both ends open, no shortest drive.
+const NO_DRIVE: u8 = 9;
+
+// Route buffer shorter than distance + 1.
+const SHORT_ROUTE: u8 = 10;
+
+// Hop asked, home not assured.
+const NOT_ASSURED: u8 = 11;
+
+// Whether home is assured, or the refusal.
+#[repr(C)]
+pub struct Assurance {
+    pub refusal: u8,
+    pub assured: bool,
+}
+
+// How many hops homeward are permitted, none at home, and where they lead, the east-west one first; or the refusal.
+#[repr(C)]
+pub struct Homeward {
+    pub refusal: u8,
+    pub hops: u8,
+    pub x: usize,
+    pub y: usize,
+    pub a: usize,
+    pub b: usize,
+}
+
+// How many crossings of the route were filled, or the refusal.
+#[repr(C)]
+pub struct Drove {
+    pub refusal: u8,
+    pub length: usize,
+}
 
 // Whether one of two ends, (x, y) and (a, b), is closed.
 fn an_end_closed(labels: &[u8], w: usize, h: usize, x: usize, y: usize, a: usize, b: usize) -> bool

@@ -1,0 +1,2 @@
+-- What is told over a label sheet's marks.
+pub mod Answering
