@@ -84,7 +84,7 @@ struct bodkin_assurance {
 
 struct bodkin_homeward {
     uint8_t refusal;
-    uint8_t hops; /* 0: there; 1: (x, y); 2: (x, y), the east-west one, and (a, b) */
+    uint8_t hops; /* 0: there; 1: (x, y); 2: (x, y), the east-west one, and (a, b). What is not named is 0. */
     size_t x;
     size_t y;
     size_t a;
