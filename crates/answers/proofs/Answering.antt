@@ -11,9 +11,10 @@ use Rattle.field.specs.Refusals.{not-assured}
 use Rattle.field.specs.Drives.{HasDrive, InRegion, InOut, is-in, is-out, RegionSheet}
 use Rattle.field.specs.Distances.{Assured}
 use Rattle.field.specs.Workings.Sheet.{Marked, Crossing, crossing}
-use Rattle.drives.specs.Promise.{Regioned, foundNumber, Makes, madeNumber, madeLength, madeState}
-use Rattle.drives.specs.declared.Found.{Found}
-use Rattle.drives.specs.declared.Found.the-variants.{EndClosed, Nowhere, Somewhere}
+use Rattle.regions.specs.Promise.{Regioned, foundNumber}
+use Rattle.drives.specs.Promise.{Makes, madeNumber, madeLength, madeState}
+use Rattle.regions.specs.declared.Found.{Found}
+use Rattle.regions.specs.declared.Found.the-variants.{EndClosed, Nowhere, Somewhere}
 use Rattle.drives.specs.declared.Made.{Made}
 use Rattle.drives.specs.declared.Made.the-variants.{Closed, NoDrive, Short, Filled}
 use Rattle.answers.specs.declared.Homeward.{Homeward}

@@ -5,7 +5,7 @@ ghost use Rattle.field.specs.Labels.{Stable};
 ghost use Rattle.field.specs.Workings.Sheet.{Marked};
 ghost use Rattle.distances.specs.Promise.{AskedHome};
 ghost use Rattle.hops.specs.Promise.{answered};
-ghost use Rattle.drives.specs.Promise.{Asked, foundNumber};
+ghost use Rattle.regions.specs.Promise.{Asked, foundNumber};
 ghost use Rattle.answers.specs.Promise.{AssuredAnswer, homeward, no-hop, HopsAnswer, RegionAnswer, DriveAnswer, Ends, no-crossings};
 
 // Document 01's refusal numbers that are told here, and 0 on success.
@@ -144,13 +144,13 @@ pub fn hop(labels: &[u8], w: usize, h: usize, hx: usize, hy: usize, x: usize, y:
 }
 
 // The number for what asking for the region finds.
-fn found_number(found: drives::Found) -> u8
+fn found_number(found: regions::Found) -> u8
     ensures { λ r. ⌜ r ≡ foundNumber found ⌝ }
 {
     match found {
-        drives::Found::EndClosed => END_CLOSED,
-        drives::Found::Nowhere => NO_DRIVE,
-        drives::Found::Somewhere => SUCCESS,
+        regions::Found::EndClosed => END_CLOSED,
+        regions::Found::Nowhere => NO_DRIVE,
+        regions::Found::Somewhere => SUCCESS,
     }
 }
 
@@ -168,7 +168,7 @@ pub fn region(
     requires { ⌜ Asked w h (now labels) (now region) sx sy dx dy ⌝ }
     ensures { λ r. ⌜ RegionAnswer w h (Marked (now (labels .entry)) w h) sx sy dx dy (now (region .entry)) (now (region .exit)) r ⌝ }
 {
-    let found = drives::region(labels, w, h, sx, sy, dx, dy, region);
+    let found = regions::region(labels, w, h, sx, sy, dx, dy, region);
     found_number(found)
 }
 

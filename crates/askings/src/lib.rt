@@ -87,7 +87,7 @@ pub fn measure(
         return n;
     }
     labels::label(labels, w, h);
-    distances::measure(labels, w, h, east, south, west, north);
+    measures::measure(labels, w, h, east, south, west, north);
     SUCCESS
 }
 

@@ -1,6 +1,4 @@
--- What the proofs of several functions share.
-mod Ways
-mod Looking
-mod Ahead
-mod Filling
+-- What the proofs of several functions share: steps along a way, crossings looked at so far, and assurance.
+pub mod Ways
+pub mod Looking
 mod Assuring

@@ -1,5 +1,3 @@
--- What the code for clear distances and assurance promises, what its functions promise one another, and what its answers tell of the closed
--- crossings that a sheet draws.
+-- What clear distances and assurance are asked of, and what their answers tell of the closed crossings that a sheet draws.
 pub mod Promise
-pub mod Running
 pub mod Drawn

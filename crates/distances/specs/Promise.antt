@@ -1,11 +1,9 @@
--- Promises of clear distances and assurance, over a sheet that marks the closed crossings: whatever is not 0 on it.
+-- What clear distances and assurance are asked of: a sheet that marks the closed crossings, whatever is not 0 on it.
 use mathlib.Core.Path.{_≡_}
 use mathlib.Core.List.{List}
 use Prim.Native.Nat.{ℕ, _*_}
 use lib.ListN.{length}
 use Rattle.field.specs.Map.{Sides, On}
-use Rattle.field.specs.Distances.{DistanceSheet, eastward, southward, westward, northward}
-use Rattle.field.specs.Workings.Sheet.{Marked}
 
 -- A map within the limits, and a sheet of its size.
 pub record Fits (w h : ℕ) (s : List ℕ) : Type 0 where
@@ -22,18 +20,3 @@ pub record AskedHome (w h : ℕ) (s : List ℕ) (hx hy x y : ℕ) : Type 0 where
   pub fits : Fits w h s
   pub home : On w h hx hy
   pub on : On w h x y
-
--- A sheet of the closed crossings and four sheets of the map's size.
-pub record Lent (w h : ℕ) (s e d f n : List ℕ) : Type 0 where
-  pub fits : Fits w h s
-  pub east : length e ≡ h * w
-  pub south : length d ≡ h * w
-  pub west : length f ≡ h * w
-  pub north : length n ≡ h * w
-
--- The four sheets hold the distances of the whole map, east, south, west, north.
-pub record Measured (w h : ℕ) (s e d f n : List ℕ) : Type 0 where
-  pub east : DistanceSheet w h (Marked s w h) eastward e
-  pub south : DistanceSheet w h (Marked s w h) southward d
-  pub west : DistanceSheet w h (Marked s w h) westward f
-  pub north : DistanceSheet w h (Marked s w h) northward n

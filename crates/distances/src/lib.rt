@@ -1,7 +1,5 @@
-// Clear distances of one crossing and of the whole map, and whether home is assured, over a sheet that marks the closed crossings.
+// Clear distances of one crossing, and whether home is assured, over a sheet that marks the closed crossings.
 mod look; // look.rt: the distance of one crossing
-mod row; // row.rt: the distances of a row
-mod sheet; // sheet.rt: the distances of the map
 
 ghost use mathlib.Core.Path.{_≡_};
 ghost use mathlib.Core.Bool.{true};
@@ -10,10 +8,10 @@ ghost use Rattle.field.specs.Map.{at};
 ghost use Rattle.field.specs.Distances.{Distances, Assured};
 ghost use Rattle.field.specs.Workings.Sheet.{Marked};
 ghost use Rattle.field.specs.Workings.Looking.{enoughOf, axisOf};
-ghost use Rattle.distances.specs.Promise.{Asked, AskedHome, Lent, Measured};
+ghost use Rattle.distances.specs.Promise.{Asked, AskedHome};
 
 // What stands for a distance where there is none.
-const NONE: u8 = 255;
+pub const NONE: u8 = 255;
 
 // What the sheet has at (x, y): 0 where the crossing is open.
 pub fn mark(s: &[u8], w: usize, h: usize, x: usize, y: usize) -> u8
@@ -34,25 +32,6 @@ pub fn distances(s: &[u8], w: usize, h: usize, x: usize, y: usize) -> [u8; 4]
         look::west(s, w, h, x, y),
         look::north(s, w, h, x, y),
     ]
-}
-
-// The distances of the whole map, one sheet for each way. Each number is made of its neighbour's: no crossing is looked at twice for one way.
-pub fn measure(
-    s: &[u8],
-    w: usize,
-    h: usize,
-    east: &mut [u8],
-    south: &mut [u8],
-    west: &mut [u8],
-    north: &mut [u8],
-)
-    requires { ⌜ Lent w h (now s) (now east) (now south) (now west) (now north) ⌝ }
-    ensures { λ _. ⌜ Measured w h (now (s .entry)) (now (east .exit)) (now (south .exit)) (now (west .exit)) (now (north .exit)) ⌝ }
-{
-    sheet::east(s, w, h, east);
-    sheet::south(s, w, h, south);
-    sheet::west(s, w, h, west);
-    sheet::north(s, w, h, north);
 }
 
 // Whether home's distance that way leaves room for the offset: it is none, or the offset is less. No other function compares the two.

@@ -19,10 +19,11 @@ use Rattle.field.specs.Workings.RegionLaws.{has-drive-in, region-sheet-draws}
 use Rattle.field.specs.Workings.ChooserLaws.{candidate-toward, candidate-some, chosen-candidate}
 use Rattle.field.specs.Workings.ChoosingLaws.{chosen-looks, driven-looks}
 use Rattle.drives.specs.declared.chooser.Choice.{Choice}
-use Rattle.drives.specs.Promise.{Asked, Filling}
-use Rattle.drives.specs.Passes.{Looked}
+use Rattle.regions.specs.Promise.{Asked}
+use Rattle.drives.specs.Promise.{Filling}
+use Rattle.regions.specs.Passes.{Looked}
 use Rattle.drives.specs.Hops.{Choosable, Chose, Steered, Written}
-use Rattle.drives.proofs.LookLaws.{east-west-tells, north-south-tells}
+use Rattle.regions.proofs.LookLaws.{east-west-tells, north-south-tells}
 
 -- In the region, and not at d, one of the two tests for a candidate is passed.
 module _ (w h : ℕ) (C : ℕ → ℕ → Type 0) (sx sy dx dy : ℕ) (g : List ℕ) (G : RegionSheet w h C sx sy dx dy g) where

@@ -11,7 +11,7 @@ use Rattle.field.specs.Drives.{HasDrive, RegionSheet}
 use Rattle.field.specs.Workings.Sheet.{Marked}
 use Rattle.field.specs.Workings.Reaching.{eastWestIn, northSouthIn, chosenOf, driveOf}
 use Rattle.drives.specs.declared.chooser.Choice.{Choice}
-use Rattle.drives.specs.Passes.{Looked}
+use Rattle.regions.specs.Passes.{Looked}
 
 -- At (x, y) there is a candidate.
 pub record Choosable (w h : ℕ) (g : List ℕ) (dx dy x y : ℕ) : Type 0 where

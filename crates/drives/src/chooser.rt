@@ -3,10 +3,10 @@ ghost use mathlib.Core.Path.{_≡_};
 ghost use Rattle.field.specs.Map.{gap};
 ghost use Rattle.drives.specs.Hops.{Choosable, Chose, Steered, Written};
 use super::draw;
-use super::looks::east_west;
-use super::looks::hop;
-use super::looks::north_south;
-use super::looks::number_of;
+use regions::looks::east_west;
+use regions::looks::hop;
+use regions::looks::north_south;
+use regions::looks::number_of;
 
 // The lowest state whose top bit is 1.
 const TOP_BIT: u32 = 2147483648;

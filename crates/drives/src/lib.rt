@@ -1,12 +1,12 @@
-// The region of shortest drives, and the chooser's drive, over a sheet that marks the closed crossings.
-mod chooser;
-mod looks;
-mod passes;
+// The chooser's drive, over a sheet that marks the closed crossings.
+mod chooser; // chooser.rt: the choice at a crossing, and a drive written down
 
 ghost use mathlib.Core.Path.{_≡_};
 ghost use Prim.Native.Nat.{_*_, _%_};
 ghost use Rattle.field.specs.Chooser.{drawn};
-ghost use Rattle.drives.specs.Promise.{Asked, Regioned, Makes, Drives};
+ghost use Rattle.regions.specs.Promise.{Asked};
+ghost use Rattle.drives.specs.Promise.{Makes, Drives};
+use regions::Found;
 
 // Document 01's refusal numbers.
 const SUCCESS: u8 = 0;
@@ -17,13 +17,6 @@ const NO_DRIVE: u8 = 9;
 
 const SHORT_ROUTE: u8 = 10;
 
-// What asking for the region finds: an end closed (8), no shortest drive (9), or some.
-pub enum Found {
-    EndClosed,
-    Nowhere,
-    Somewhere,
-}
-
 // What asking for a drive makes: nothing, an end being closed (8), there being no shortest drive (9) or the route too short (10); or so many
 // crossings at the route's front, and the state after it.
 pub enum Made {
@@ -31,39 +24,6 @@ pub enum Made {
     NoDrive,
     Short,
     Filled(usize, u32),
-}
-
-// The region from (sx, sy) to (dx, dy) into a lent sheet, which is its own working memory. A pass from s marks what a shortest drive from s
-// reaches inside the rectangle that s and d span; a pass from d then keeps what also reaches d. With an end closed the sheet stays as it was;
-// with no shortest drive it ends all 0, and then s itself has no mark.
-pub fn region(
-    s: &[u8],
-    w: usize,
-    h: usize,
-    sx: usize,
-    sy: usize,
-    dx: usize,
-    dy: usize,
-    g: &mut [u8],
-) -> Found
-    requires { ⌜ Asked w h (now s) (now g) sx sy dx dy ⌝ }
-    ensures { λ r. ⌜ Regioned w h (now (s .entry)) sx sy dx dy (now (g .entry)) (now (g .exit)) r ⌝ }
-{
-    let i = looks::number_of(w, h, sx, sy);
-    if s[i] != 0 {
-        return Found::EndClosed;
-    }
-    let j = looks::number_of(w, h, dx, dy);
-    if s[j] != 0 {
-        return Found::EndClosed;
-    }
-    passes::wipe(g);
-    passes::spread(s, w, h, sx, sy, dx, dy, g);
-    passes::sift(w, h, dx, dy, sx, sy, g);
-    if g[i] == 0 {
-        return Found::Nowhere;
-    }
-    Found::Somewhere
 }
 
 // a × b, modulo 2^32: the product of two 32-bit numbers fits 64 bits.
@@ -98,7 +58,7 @@ pub fn fill(
     requires { ⌜ Asked w h (now s) (now g) sx sy dx dy ⌝ }
     ensures { λ r. ⌜ Makes w h (now (s .entry)) sx sy dx dy z (now (g .entry)) (now (g .exit)) (now (route .entry)) (now (route .exit)) r ⌝ }
 {
-    let found = region(s, w, h, sx, sy, dx, dy, g);
+    let found = regions::region(s, w, h, sx, sy, dx, dy, g);
     match found {
         Found::EndClosed => Made::Closed,
         Found::Nowhere => Made::NoDrive,

@@ -1,2 +1,2 @@
--- The laws behind the functions' proofs, in plain mathematics of sheets and stacks.
+-- The laws behind the functions' proofs, in plain mathematics of sheets and counts.
 pub mod Laws

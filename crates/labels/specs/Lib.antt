@@ -1,7 +1,4 @@
--- What the labelling promises, and that this is one outcome; then, for the functions within, what the sheet and the stack hold while it works.
+-- What the labelling promises, and that this is one outcome; then, for the functions within, what settling the sheet promises.
 pub mod Promise
 pub mod Outcome
-pub mod Work
-pub mod Steps
-pub mod Gathering
 pub mod Settling

@@ -2,8 +2,7 @@
 // that becomes closed is looked around once, so the work grows with the map.
 ghost use Rattle.labels.specs.Promise.{Stamped, Labels};
 
-mod closing;
-mod settling;
+mod settling; // settling.rt: the sheet without its notes, and the counts
 
 // What labelling hands back: the numbers of rocks' crossings, shut crossings and groups.
 pub struct Labelled {

@@ -1,7 +1,7 @@
 -- `an_end_closed` meets its contract: a crossing is open exactly where its mark is 0.
 use mathlib.Core.Path.{refl}
 use mathlib.Core.Logic.{inl, inr}
-use Rattle.drives.proofs.RegionMade.{end-closed, end-open}
+use Rattle.regions.proofs.RegionMade.{end-closed, end-open}
 use borrow.Author.Needs.{needs}
 use Rattle.answers.proofs.an_end_closed.Statement.{statement}
 use Rattle.answers.proofs.an_end_closed.Tie as tie

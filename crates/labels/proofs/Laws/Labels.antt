@@ -17,7 +17,7 @@ use Rattle.field.specs.Workings.Labelling.{label-sheet-draws}
 use Rattle.field.specs.Workings.Counting.{tally, sum-same, count-tally}
 use Rattle.labels.specs.declared.Labelled.{Labelled}
 use Rattle.labels.specs.Promise.{Stones, Labels}
-use Rattle.labels.specs.Gathering.{Worked}
+use Rattle.closing.specs.Promise.{Worked}
 use Rattle.labels.specs.Settling.{rockBit, shutBit, closedBit, westBit, southBit, worth, total, SettledAll}
 use Rattle.labels.proofs.Laws.Bits.{rock-one, rock-none, shut-one, shut-none, closed-one, closed-none, west-none, west-at, south-none, south-at}
 use Rattle.labels.proofs.Laws.Settling.{turned-worth}

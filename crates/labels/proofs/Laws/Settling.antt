@@ -10,12 +10,12 @@ use lib.ListN.{length, getD, set, length-set}
 use lib.Seq.{getD-set-same, getD-set-other, set-getD}
 use Rattle.field.specs.Map.{number, at}
 use Rattle.labels.specs.declared.Labelled.{Labelled}
-use Rattle.labels.specs.Work.{Shown, Free}
-use Rattle.labels.specs.Gathering.{settled}
+use Rattle.closing.specs.Work.{Shown, Free}
+use Rattle.closing.specs.Promise.{settled}
 use Rattle.labels.specs.Settling.{counted, rockBit, shutBit, closedBit, westBit, southBit, worth, sumOf, Passed, Turned}
-use Rattle.labels.proofs.Laws.Bytes.{shown-free}
+use Rattle.closing.proofs.Laws.Bytes.{shown-free}
 use Rattle.labels.proofs.Laws.Bits.{rock-one, rock-none, shut-one, shut-none, closed-one, closed-none}
-use Rattle.labels.proofs.Laws.Draining.{settled-low, settled-high}
+use Rattle.closing.proofs.Laws.Draining.{settled-low, settled-high}
 
 -- A byte and what is left of it.
 pub settled-le : (b : ℕ) → settled b ≤ 2

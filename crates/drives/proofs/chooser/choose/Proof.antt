@@ -2,7 +2,7 @@
 use mathlib.Core.Path.{refl, sym, _∙_}
 use mathlib.Core.Bool.{false≢true}
 use mathlib.Core.Logic.{⊎-elim}
-use Rattle.drives.proofs.LookLaws.{east-west-tells, north-south-tells, told}
+use Rattle.regions.proofs.LookLaws.{east-west-tells, north-south-tells, told}
 use Rattle.drives.proofs.ChoiceLaws.{top-zero, top-other, chose, chosen-low, chosen-high, chosen-row, chosen-column}
 use borrow.Author.Needs.{needs}
 use Rattle.drives.proofs.chooser.choose.Statement.{statement}

@@ -1,0 +1,3 @@
+-- What the proofs of several functions share: the number ahead of a crossing, and how the numbers fill a sheet.
+mod Ahead
+mod Filling

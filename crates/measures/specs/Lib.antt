@@ -1,0 +1,3 @@
+-- What the whole map's clear distances promise, and what the functions behind them promise one another.
+pub mod Promise
+pub mod Running
