@@ -21,7 +21,7 @@ use Rattle.markers.specs.Laws.Slices.{listOf-length, listOf-x, listOf-y}
 use Rattle.reader.specs.declared.Reading.{Reading}
 use Rattle.reader.specs.declared.Reading.the-variants.{Map, Refused}
 use Rattle.reader.specs.Promise.{Reads, Taken, Turned}
-use Rattle.mapfile.specs.Limits.{crossings-few, most-markers-is}
+use Rattle.field.specs.Limits.{crossing-slots, marker-slots, crossings-few, most-markers-is}
 use Rattle.chart.specs.Promise.{most-bytes, Charted, at-fault, shown}
 use Rattle.chart.specs.Parts.{Puts, MarkersShown, RefusalLine}
 use Rattle.chart.proofs.Showing.{shown-alike}
@@ -40,17 +40,17 @@ map-crossings : {file bits : List ℕ} {w h : ℕ} → MapFile file w h bits →
 map-crossings {file} {bits} {w} {h} m = raster-crossings (m .format) w h (m .body) bits (m .raster)
 
 -- A slot for each crossing of the largest map.
-few-markers : {file bits : List ℕ} {w h : ℕ} → MapFile file w h bits → length (markersOf w h bits) ≤ 4096
+few-markers : {file bits : List ℕ} {w h : ℕ} → MapFile file w h bits → length (markersOf w h bits) ≤ crossing-slots
 few-markers {file} {bits} m = omega (arith, markers-few bits (m .sides) (map-crossings m), crossings-few (m .sides))
 
-slot-some : {file : List ℕ} {lent : ℕ} → 4096 ≤ lent → ¬ NoSlot file lent
+slot-some : {file : List ℕ} {lent : ℕ} → marker-slots ≤ lent → ¬ NoSlot file lent
 slot-some {file} {lent} l n = go (n .many)
   where
     go : (lent < length (markersOf (n .w) (n .h) (n .bits))) ⊎ (most-markers < length (markersOf (n .w) (n .h) (n .bits))) → ⊥
     go (inl m) = omega (arith, few-markers (n .map))
     go (inr m) = omega (arith, few-markers (n .map), most-markers-is)
 
-pub turned-fault : {file : List ℕ} {after : List Marker} {n : ℕ} (ids xs ys : List ℕ) → Parallel ids xs ys → 4096 ≤ length ids
+pub turned-fault : {file : List ℕ} {after : List Marker} {n : ℕ} (ids xs ys : List ℕ) → Parallel ids xs ys → marker-slots ≤ length ids
     → Turned file (listOf ids xs ys) n after → FileFault file n
 turned-fault {file} {after} {n} ids xs ys p l t = go (t .fault)
   where

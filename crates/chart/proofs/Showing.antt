@@ -10,7 +10,7 @@ use Rattle.field.specs.Workings.SameLaws.{Alike, open-same, closed-same, shut-s
 use Rattle.labels.specs.declared.Labelled.{Labelled}
 use Rattle.labels.specs.Promise.{Stones, Labels}
 use Rattle.markers.specs.Promise.{StampedWith}
-use Rattle.mapfile.specs.Limits.{crossings-few}
+use Rattle.field.specs.Limits.{crossings-few}
 use Rattle.chart.specs.Promise.{Picture}
 use Rattle.chart.specs.Parts.{Put, Puts, Short, FirstLine, Shown, MarkersShown}
 use Rattle.chart.specs.Drawing.{pictureOf}

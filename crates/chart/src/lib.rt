@@ -1,5 +1,7 @@
 // The labelling program's text: from the bytes of a map file to an output slice. Each piece of the text is written into its own part of the output,
 // and hands back where the next begins.
+use field::MOST_CROSSINGS;
+use field::MOST_MARKERS;
 ghost use Prim.Native.Nat.{_≤_};
 ghost use lib.ListN.{length, take, drop};
 ghost use mathlib.Core.Path.{_≡_};
@@ -9,9 +11,6 @@ ghost use Rattle.chart.specs.Drawing.{signOf, rowOf, pictureOf};
 
 // "A program takes at most 65,536 input bytes".
 const MOST_BYTES: usize = 65536;
-
-// The crossings of the largest map, and so its rocks.
-const MOST: usize = 4096;
 
 // How many digits a number is printed with: 0 has one.
 fn digits(v: usize) -> usize
@@ -132,13 +131,13 @@ fn put_file(out: &mut [u8], src: &[u8]) -> usize
     requires { ⌜ FileRoom (now src) (now out) ⌝ }
     ensures { λ r. ⌜ Puts (Charted (now (src .entry))) (now (out .entry)) 0 (now (out .exit)) r ⌝ }
 {
-    let mut ids = [0u16; MOST];
-    let mut xs = [0u16; MOST];
-    let mut ys = [0u16; MOST];
+    let mut ids = [0u16; MOST_MARKERS];
+    let mut xs = [0u16; MOST_MARKERS];
+    let mut ys = [0u16; MOST_MARKERS];
     let reading = reader::read(src, &mut ids, &mut xs, &mut ys);
     match reading {
         reader::Reading::Map(w, h, count) => {
-            let mut sheet = [0u8; MOST];
+            let mut sheet = [0u8; MOST_CROSSINGS];
             let size = h * w;
             put_map(out, &mut sheet[..size], &xs, &ys, count, w, h)
         }

@@ -200,15 +200,12 @@ fn drain(s: &mut [u8], w: usize, h: usize, stack: &mut [u16], height: usize)
     }
 }
 
-// The crossings of the largest map: the stack has a slot for each.
-const MOST: usize = 4096;
-
-// Shuts every crossing of the smallest set that is no rock, and leaves notes at others.
+// Shuts every crossing of the smallest set that is no rock, and leaves notes at others. The stack has a slot for each crossing of the largest map.
 pub fn close(s: &mut [u8], w: usize, h: usize)
     requires { ⌜ Stamped w h (now s) ⌝ }
     ensures { λ r. ⌜ Worked (Stones w h (now (s .entry))) w h (now (s .exit)) ⌝ }
 {
-    let mut stack = [0u16; MOST];
+    let mut stack = [0u16; field::MOST_CROSSINGS];
     let k = gather(s, w, h, &mut stack);
     drain(s, w, h, &mut stack, k);
 }

@@ -1,6 +1,7 @@
 // The parts of the two map-file calls that need no list of records: writing from a sheet on which the rocks are stamped, and reading into slices of
 // ids and places.
 use field::Marker;
+use field::SIDE;
 use reader::Reading;
 use writer::Wrote;
 ghost use mathlib.Core.Path.{_≡_};
@@ -10,9 +11,6 @@ ghost use Rattle.field.specs.Workings.MarkCount.{marks};
 ghost use Rattle.markers.specs.List.{slot};
 ghost use Rattle.markers.specs.Promise.{listOf, Parallel};
 ghost use Rattle.exchange.specs.Promise.{Area, MayWrite, WriteRest, MarkerRoom, ReadsMarkers};
-
-// "Width and height: 1 to 64 each."
-const SIDE: usize = 64;
 
 // Document 01's refusal numbers that are found here.
 const NO_SLOT: u8 = 7;

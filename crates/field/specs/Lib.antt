@@ -1,5 +1,5 @@
 -- What document 01 defines. The eight modules first named are meanings: relations in the document's words, which a reader must believe.
--- Workings compute, and each agrees with its meaning; Geometry has the theorems that need no code; the table holds the settled examples.
+-- Limits has the numbers that the code's constants share with them. Workings compute, and each agrees with its meaning; Geometry has the theorems that need no code; the table holds the settled examples.
 pub mod Map
 pub mod Refusals
 pub mod Labels
@@ -8,6 +8,7 @@ pub mod Distances
 pub mod Hops
 pub mod Drives
 pub mod Chooser
+pub mod Limits
 pub mod Workings
 pub mod Geometry
 pub mod Table

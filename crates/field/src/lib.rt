@@ -1,6 +1,15 @@
 // The field: what document 01 defines, as meanings that a reader must believe and workings that compute. The definitions stand in specs/;
 // this file has only what code and definitions share.
 
+// "Width and height: 1 to 64 each."
+pub const SIDE: usize = 64;
+
+// The crossings of the largest map.
+pub const MOST_CROSSINGS: usize = 4096;
+
+// "At most 4,096 are in use."
+pub const MOST_MARKERS: usize = 4096;
+
 // A rock marker: a sixteen-bit id and the crossing on which it stands, laid out for C.
 #[repr(C)]
 pub struct Marker {

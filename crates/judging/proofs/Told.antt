@@ -3,20 +3,11 @@ use mathlib.Core.Path.{_≡_, refl, sym, subst}
 use mathlib.Core.Bool.{Bool, true, false, not}
 use mathlib.Core.Logic.{_↔_}
 use Prim.Native.Nat.{ℕ, _*_, _<_, _^_}
-use native.Mathlib.Nat.{mul-le-mul}
 use native.Mathlib.Omega.{arith}
 use lib.Dec.{T as Holds, eqb, eqb→eq, T-not}
 use borrow.Author.Tests.{not-true, not-false}
-use Rattle.field.specs.Map.{Sides, side, most-markers}
-
--- The limits as the code writes them.
-pub side-is : side ≡ 64
-unfolding side
-side-is = refl
-
-pub most-is : most-markers ≡ 4096
-unfolding most-markers
-most-is = refl
+use Rattle.field.specs.Map.{Sides}
+use Rattle.field.specs.Limits.{crossings-few}
 
 -- An answer is the truth of P: no where P fails, yes where it holds.
 pub refused : {P : Type 0} → (P → ⊥) → ((false ≡ true) ↔ P)
@@ -37,7 +28,7 @@ pub yes-no : {r : Bool} → not r ≡ false → r ≡ false → ⊥
 yes-no {r} n e = let z : _≡_ {A = ℕ} 0 1 = cc (not-false r n, e) in omega arith
 
 pub crossings-fit : {w h : ℕ} → Sides w h → h * w < 2 ^ 64
-crossings-fit {w} {h} s = omega (arith, mul-le-mul {n₁ = h} {m₁ = w} {n₂ = 64} {m₂ = 64} (omega (arith, side-is, s .most-h)) (omega (arith, side-is, s .most-w)))
+crossings-fit s = omega (arith, crossings-few s)
 
 -- A test `n != 0` of a number.
 pub not-zero : (n : ℕ) → Holds (not (eqb n 0)) → ¬ (n ≡ 0)

@@ -1,5 +1,7 @@
 // Refusals that are told from numbers and yes-or-no answers alone, the lowest first. Nothing here touches what is lent.
+use field::MOST_MARKERS;
 use field::Marker;
+use field::SIDE;
 ghost use mathlib.Core.Path.{_≡_};
 ghost use mathlib.Core.Bool.{true};
 ghost use mathlib.Core.Logic.{_↔_};
@@ -8,11 +10,6 @@ ghost use Rattle.field.specs.Map.{Sides, On};
 ghost use Rattle.markers.specs.Promise.{marker};
 ghost use Rattle.judging.specs.Rule.{Gives};
 ghost use Rattle.judging.specs.Judging.{Fits, FourFit, asking-judged, list-judged, enter-judged, clear-judged, FoundAt};
-
-// "Width and height: 1 to 64 each." "At most 4,096 are in use."
-const SIDE: usize = 64;
-
-const MOST_MARKERS: usize = 4096;
 
 // Document 01's refusal numbers that come before anything is written, and 0 for none.
 pub const SUCCESS: u8 = 0;

@@ -26,7 +26,7 @@ use Rattle.calls.specs.Calls.{EnterCall, ClearCall}
 use Rattle.calls.specs.declared.Counted.{Counted}
 use Rattle.calls.proofs.Counted as R
 use Rattle.calls.proofs.Counted.Laws as R′
-use Rattle.judging.proofs.Told.{side-is}
+use Rattle.field.specs.Limits.{side-is}
 use Rattle.layer.proofs.Seeking.{rising-of}
 
 -- An answer: the refusal, and the new count.

@@ -2,17 +2,13 @@
 use super::prepare;
 use exchange::ReadMap;
 use exchange::WroteMap;
+use field::MOST_CROSSINGS;
+use field::MOST_MARKERS;
 use field::Marker;
 ghost use mathlib.Core.Path.{_≡_};
 ghost use Rattle.markers.specs.Promise.{listOf};
 ghost use Rattle.calls.specs.Calls.{ReadCall, WriteCall};
 ghost use Rattle.layer.specs.Files.{MayPut, putIn};
-
-// So many crossings a map has at most.
-const MOST_CROSSINGS: usize = 4096;
-
-// "At most 4,096 are in use."
-const MOST_MARKERS: usize = 4096;
 
 // Writes the list as a map file, P4. Hands back the number of bytes written, or the refusal: 1, 3, 16 or 17. Bytes past the end stay, and a refusal
 // changes none.

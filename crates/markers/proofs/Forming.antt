@@ -13,11 +13,6 @@ use Rattle.markers.specs.List.{WellFormed}
 use Rattle.markers.specs.Promise.{listOf, Parallel}
 use Rattle.markers.specs.Laws.Slices.{listOf-length, listOf-id, listOf-x, listOf-y}
 
--- The limit as the code writes it.
-pub limit : most-markers ≡ 4096
-unfolding most-markers
-limit = refl
-
 pub refused : {P : Type 0} → (P → ⊥) → ((false ≡ true) ↔ P)
 refused n = (λ e. let z : _≡_ {A = ℕ} 0 1 = cc in absurd (omega arith), λ p. absurd (n p))
 

@@ -1,14 +1,12 @@
 // The marker list over parallel slices of ids and places: the k-th marker is made of the k-th id, x and y. Each change of the list is the same
 // change of the three slices. Slots past the count are neither read nor changed, save the one that entering takes.
+use field::MOST_MARKERS;
 ghost use mathlib.Core.Path.{_≡_};
 ghost use mathlib.Core.Bool.{true};
 ghost use mathlib.Core.Logic.{_↔_};
 ghost use Rattle.markers.specs.List.{WellFormed};
 ghost use Rattle.markers.specs.Slots.{IdsRise, PlaceOf, MayOpen, SlotOpened, MayClose, SlotClosed, Wiped};
 ghost use Rattle.markers.specs.Promise.{listOf, marker, Parallel, MayEnter, MayClear, MayStamp, StampedWith, Enters, Clears};
-
-// "At most 4,096 are in use."
-const MOST_MARKERS: usize = 4096;
 
 // Whether the list is well formed on a map of this width and height: count within its limits, ids from 1 rising, every marker on the map.
 pub fn well_formed(ids: &[u16], xs: &[u16], ys: &[u16], count: usize, w: usize, h: usize) -> bool

@@ -11,7 +11,7 @@ use Rattle.mapfile.specs.RasterLaws.{raw-raster}
 use Rattle.mapfile.specs.MarkerLaws.{ones, ones-le, ones-snoc}
 use Rattle.raster.specs.RasterParts.{placeOf, RawRows, MayStep, Steps, MayLook}
 use Rattle.raster.specs.declared.Place.{Place}
-use Rattle.mapfile.specs.Limits.{crossings-few}
+use Rattle.field.specs.Limits.{crossing-slots, crossings-few}
 use Rattle.raster.proofs.Rows.{place-below, rows-end, byte-below, take-next}
 
 pub record Counting (w h : ℕ) (body : List ℕ) (rocks : ℕ) (p : Place) : Type 0 where
@@ -42,7 +42,7 @@ module _ {w h : ℕ} {body : List ℕ} (r : RawRows w h body) where
   counting-step l k = record { in-x = k .in-x; few = omega (arith, r .sides .most-h) }
 
   -- There are no more rocks than crossings passed.
-  pub counting-few : {rocks : ℕ} {p : Place} → Counting w h body rocks p → rocks ≤ 4096
+  pub counting-few : {rocks : ℕ} {p : Place} → Counting w h body rocks p → rocks ≤ crossing-slots
   counting-few {rocks} {p} k =
       omega (
         arith,

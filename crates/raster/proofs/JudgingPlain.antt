@@ -25,7 +25,7 @@ use Rattle.mapfile.specs.RasterLaws.{digits-append}
 use Rattle.mapfile.specs.File.{plain}
 use Rattle.mapfile.specs.MarkerLaws.{ones, ones-le, ones-snoc}
 use Rattle.raster.specs.RasterParts.{BitByte, zero-byte, one-byte, JudgedAs}
-use Rattle.mapfile.specs.Limits.{crossings-few}
+use Rattle.field.specs.Limits.{crossing-slots, crossings-few}
 use Rattle.raster.proofs.Rows.{take-next}
 use Rattle.header.specs.Left.{left-cons}
 use Rattle.raster.proofs.Judging.{judged, rocks-marked}
@@ -81,7 +81,7 @@ module _ {w h : ℕ} {body : List ℕ} {digits rocks i : ℕ} (k : JudgingPlain 
       }
 
   -- No more rocks than digits, and no more digits than crossings.
-  pub judging-few : Sides w h → rocks ≤ 4096
+  pub judging-few : Sides w h → rocks ≤ crossing-slots
   judging-few s = omega (arith, k .marked, k .counted, k .few, ones-le (k .bits), crossings-few s)
 
   parted : i < length body → body ≡ take i body ++ getD body i 0 ∷ drop (i + 1) body

@@ -1,6 +1,8 @@
 // The map reader: PBM, plain P1 and raw P4, within document 01's bounds, into the marker list over parallel slices. It goes over the header once and
 // over the raster twice: first the raster is judged and its rocks are counted, and only when nothing is left to refuse are they entered. So a refusal
 // changes no slot.
+use field::MOST_MARKERS;
+use field::SIDE;
 use header::Head;
 use raster::Judged;
 ghost use mathlib.Core.Path.{_≡_};
@@ -13,12 +15,6 @@ ghost use Rattle.reader.specs.Promise.{Reads};
 ghost use Rattle.reader.specs.LettersParts.{SameTwo, LettersRead};
 ghost use Rattle.raster.specs.RasterParts.{formatOf};
 ghost use Rattle.reader.specs.ReadingParts.{HasRoom, RasterRefusal, MayReadRaster, RasterReads, MayReadMap};
-
-// "Width and height: 1 to 64 each."
-const SIDE: usize = 64;
-
-// "At most 4,096 are in use."
-const MOST_MARKERS: usize = 4096;
 
 // What reading a file finds: a map's width, height and number of rocks; or the number of the refusal.
 pub enum Reading {

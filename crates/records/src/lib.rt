@@ -1,5 +1,6 @@
 // The caller's list of marker records, lent with a count of those in use. Every function here looks along the list itself; what it thinks of one
 // record stands in a function on the record by value.
+use field::MOST_MARKERS;
 use field::Marker;
 ghost use mathlib.Core.Path.{_≡_};
 ghost use mathlib.Core.Bool.{true};
@@ -11,9 +12,6 @@ ghost use Rattle.markers.specs.List.{WellFormed};
 ghost use Rattle.markers.specs.Promise.{Rising};
 ghost use Rattle.records.specs.Promise.{Place, MayEnter, MayClear, Enters, Clears, MayStamp, StampedWith};
 ghost use Rattle.records.specs.Steps.{Few, Follows};
-
-// "At most 4,096 are in use."
-const MOST_MARKERS: usize = 4096;
 
 // Whether a count is within its limits, for a list lent of this length.
 fn few(count: usize, lent: usize) -> bool

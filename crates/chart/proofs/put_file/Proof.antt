@@ -3,7 +3,7 @@ use native.Mathlib.Omega.{arith}
 use mathlib.Core.Path.{refl, sym}
 use lib.Seq.{length-take-le}
 use Rattle.field.specs.Map.{side, Sides}
-use Rattle.mapfile.specs.Limits.{crossings-few}
+use Rattle.field.specs.Limits.{crossings-few}
 use Rattle.chart.specs.Parts.{Short}
 use Rattle.chart.proofs.Reading.{reads-map, reads-refused, turned-fault, fault-text, taken-stamp, map-text, text-few}
 use borrow.Author.Needs.{needs}

@@ -14,18 +14,10 @@ use Rattle.closing.specs.Steps.{Touching, Touched, noted, shut, kept, Lo
 use Rattle.closing.proofs.Laws.Bytes.{free-bit, shown-bit, free-some, free-set}
 use Rattle.closing.proofs.Laws.Notes.{noted-high}
 
--- The limit's two uses: the stack has a slot for each crossing of the largest map, and a number of the stack holds any of its crossings.
-stack-most : side * side ≡ 4096
-unfolding side
-stack-most = refl
-
+-- A number of the stack holds any crossing of the largest map.
 packs-most : side ≤ 256
 unfolding side
 packs-most = omega arith
-
-pub sides-stack : {w h : ℕ} → Sides w h → h * w ≤ 4096
-sides-stack {w} {h} s =
-    omega (arith, stack-most, mul-le-mul-right {m = h} {n = side} w (s .most-h), mul-le-mul-left {m = w} {n = side} side (s .most-w))
 
 pub on-packs : {w h x y : ℕ} → Sides w h → On w h x y → Packs x y
 on-packs s o = omega (arith, packs-most)

@@ -1,7 +1,7 @@
 -- `closing::close` meets its contract: the stack has room for every crossing of the map.
 use native.Mathlib.Omega.{arith}
 use borrow.Author.Needs.{needs}
-use Rattle.closing.proofs.Laws.Rooms.{sides-stack}
+use Rattle.field.specs.Limits.{crossings-few}
 use Rattle.closing.proofs.close.Statement.{statement}
 use Rattle.closing.proofs.close.Tie as tie
 
@@ -9,7 +9,7 @@ slice-aggregate-gather : tie.Need-slice-aggregate-gather
 slice-aggregate-gather c = search needs
 
 gather-requires : tie.Need-gather-requires
-gather-requires c κs = record { stamped = c .before .before .before .pre; deep = sides-stack (c .before .before .before .pre .sides) }
+gather-requires c κs = record { stamped = c .before .before .before .pre; deep = crossings-few (c .before .before .before .pre .sides) }
 
 slice-aggregate-drain : tie.Need-slice-aggregate-drain
 slice-aggregate-drain c = search needs
@@ -17,7 +17,7 @@ slice-aggregate-drain c = search needs
 drain-requires : tie.Need-drain-requires
 drain-requires c κs =
     let p = c .before .before .before .before .before .before .before .pre in
-    record { stamped = p; deep = omega (arith, sides-stack (p .sides)); gathered = c .before .before .before .gather .ensures }
+    record { stamped = p; deep = omega (arith, crossings-few (p .sides)); gathered = c .before .before .before .gather .ensures }
 
 same-length : tie.Need-same-length
 same-length c = search needs

@@ -4,6 +4,7 @@ use Prim.Native.Nat.{ℕ, _*_, _≤_}
 use native.Mathlib.Omega.{arith}
 use native.Mathlib.Nat.{mul-le-mul}
 use Rattle.field.specs.Map.{side}
+use Rattle.field.specs.Limits.{side-number}
 use Rattle.exchange.proofs.area.Statement.{statement}
 use Rattle.exchange.proofs.area.Tie as tie
 
@@ -16,8 +17,8 @@ unfolding side
 returns-2 c = record { is = λ s. absurd (omega (arith, s .most-h)); most = omega arith }
 
 -- A product of sides within the limit.
-product : (w h : ℕ) → w ≤ 64 → h ≤ 64 → h * w ≤ 64 * 64
-product w h p q = mul-le-mul {n₁ = h} {m₁ = w} {n₂ = 64} {m₂ = 64} q p
+product : (w h : ℕ) → w ≤ side-number → h ≤ side-number → h * w ≤ side-number * side-number
+product w h p q = mul-le-mul {n₁ = h} {m₁ = w} {n₂ = side-number} {m₂ = side-number} q p
 
 mul-result : tie.Need-mul-result
 mul-result c = record { fits = omega (arith, product (c .before .before .args .w) (c .before .before .args .h) (omega arith) (omega arith)) }

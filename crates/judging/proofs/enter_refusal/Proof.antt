@@ -3,7 +3,8 @@ use mathlib.Core.Path.{refl}
 use mathlib.Core.Logic.{inl, inr, ⊎-elim}
 use native.Mathlib.Omega.{arith}
 use borrow.Author.Needs.{needs}
-use Rattle.judging.proofs.Told.{most-is, told-no, told-yes}
+use Rattle.field.specs.Limits.{most-markers-is}
+use Rattle.judging.proofs.Told.{told-no, told-yes}
 use Rattle.judging.proofs.enter_refusal.Statement.{statement}
 use Rattle.judging.proofs.enter_refusal.Tie as tie
 
@@ -30,11 +31,11 @@ returns-6 c = inr (λ e. omega arith, inr (λ e. omega arith, inr (⊎-elim (λ 
 
 returns-7 : tie.Need-returns-7
 returns-7 c =
-    inr (λ e. omega arith, inr (λ e. omega arith, inr (⊎-elim (λ n. n (told-yes (c .before .before .before .before .before .on-map .ensures) (c .before .before .before .before .if3 .left))) (λ e. omega arith), inr (λ e. omega arith, inl (inr (omega (arith, most-is)), refl)))))
+    inr (λ e. omega arith, inr (λ e. omega arith, inr (⊎-elim (λ n. n (told-yes (c .before .before .before .before .before .on-map .ensures) (c .before .before .before .before .if3 .left))) (λ e. omega arith), inr (λ e. omega arith, inl (inr (omega (arith, most-markers-is)), refl)))))
 
 returns-8 : tie.Need-returns-8
 returns-8 c =
-    inr (λ e. omega arith, inr (λ e. omega arith, inr (⊎-elim (λ n. n (told-yes (c .before .before .before .before .before .on-map .ensures) (c .before .before .before .before .if3 .left))) (λ e. omega arith), inr (λ e. omega arith, inr (⊎-elim (λ l. omega arith) (λ l. omega (arith, most-is)), refl)))))
+    inr (λ e. omega arith, inr (λ e. omega arith, inr (⊎-elim (λ n. n (told-yes (c .before .before .before .before .before .on-map .ensures) (c .before .before .before .before .if3 .left))) (λ e. omega arith), inr (λ e. omega arith, inr (⊎-elim (λ l. omega arith) (λ l. omega (arith, most-markers-is)), refl)))))
 
 pub enter-refusal-spec : {M : Type 1} → statement M
 enter-refusal-spec =

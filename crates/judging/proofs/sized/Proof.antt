@@ -2,7 +2,8 @@
 use native.Mathlib.Omega.{arith}
 use borrow.Author.Tests.{leb-true, le-leb}
 use Prim.Native.Nat.{_≤_}
-use Rattle.judging.proofs.Told.{side-is, refused}
+use Rattle.field.specs.Limits.{side-number, side-is}
+use Rattle.judging.proofs.Told.{refused}
 use Rattle.judging.proofs.sized.Statement.{statement}
 use Rattle.judging.proofs.sized.Tie as tie
 
@@ -17,9 +18,9 @@ returns-3 c = refused (λ s. omega (arith, s .most-w, side-is))
 
 returns-4 : tie.Need-returns-4
 returns-4 c = (
-  λ e. let most : c .before .before .before .args .h ≤ 64 = leb-true _ _ e in
+  λ e. let most : c .before .before .before .args .h ≤ side-number = leb-true _ _ e in
       record { some-w = omega arith; some-h = omega arith; most-w = omega (arith, side-is); most-h = rw side-is most },
-  λ s. le-leb (c .before .before .before .args .h) 64 (rw side-is at (s .most-h)),
+  λ s. le-leb (c .before .before .before .args .h) side-number (rw side-is at (s .most-h)),
 )
 
 pub sized-spec : {M : Type 1} → statement M

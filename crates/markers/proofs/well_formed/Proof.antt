@@ -1,7 +1,9 @@
 -- `well_formed` meets its contract: the loop keeps Forming; where a test fails, so does what the list would need to be well formed.
 use Prim.Native.Nat.{_-_}
 use native.Mathlib.Omega.{arith}
-use Rattle.markers.proofs.Forming.{Forming, limit, refused, accepted, too-many, not-lent, next-above, next-x, next-y}
+use Rattle.field.specs.Limits.{most-markers-is}
+use Rattle.markers.proofs.Forming.{Forming, refused, accepted, too-many, not-lent, next-above, next-x, next-y}
+use Rattle.field.specs.Limits.{most-markers-is}
 use Rattle.markers.proofs.Forming.{forming-start, forming-more, forming-end}
 use Rattle.markers.proofs.well_formed.Statement.{statement}
 use Rattle.markers.proofs.well_formed.Tie as tie
@@ -13,7 +15,7 @@ abbrev μ-loop : tie.MeasureT-loop
 μ-loop ids xs ys count w h last₀ k₀ last k = count - k
 
 returns : tie.Need-returns Inv-loop μ-loop
-returns c = refused (too-many _ _ _ _ _ _ (c .before .pre) (omega (arith, limit)))
+returns c = refused (too-many _ _ _ _ _ _ (c .before .pre) (omega (arith, most-markers-is)))
 
 returns-2 : tie.Need-returns-2 Inv-loop μ-loop
 returns-2 c = refused (not-lent _ _ _ _ _ _ (c .before .before .pre) (omega arith))
@@ -85,7 +87,7 @@ returns-6 : tie.Need-returns-6 Inv-loop μ-loop
 returns-6 c =
     let l = c .before in
     let s = l .before .before .before in
-    accepted (forming-end _ _ _ _ _ _ (s .pre) (omega arith) (omega (arith, limit)) (omega arith) (l .loop .inv))
+    accepted (forming-end _ _ _ _ _ _ (s .pre) (omega arith) (omega (arith, most-markers-is)) (omega arith) (l .loop .inv))
 
 pub well-formed-spec : {M : Type 1} → statement M
 well-formed-spec =

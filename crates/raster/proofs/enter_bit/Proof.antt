@@ -1,6 +1,6 @@
 -- `enter_bit` meets its contract: nothing is stored where the bit is 0; else the slot is within the slices, and each number fits its slice.
 use native.Mathlib.Omega.{arith}
-use Rattle.mapfile.specs.Limits.{side-is, most-markers-is}
+use Rattle.field.specs.Limits.{side-is, most-markers-is}
 use Rattle.raster.proofs.Entering.{enters-none, enters-one}
 use borrow.Author.Needs.{needs}
 use Rattle.raster.proofs.enter_bit.Statement.{statement}

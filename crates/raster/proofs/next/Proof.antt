@@ -1,6 +1,6 @@
 -- `next` meets its contract: one column further, or the first column of the next row.
 use native.Mathlib.Omega.{arith}
-use Rattle.mapfile.specs.Limits.{side-is}
+use Rattle.field.specs.Limits.{side-is}
 use borrow.Author.Needs.{needs}
 use Rattle.raster.proofs.next.Statement.{statement}
 use Rattle.raster.proofs.next.Tie as tie

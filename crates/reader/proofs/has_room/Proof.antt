@@ -1,7 +1,7 @@
 -- `has_room` meets its contract: each failed test is one bound.
 use native.Mathlib.Omega.{arith}
 use Rattle.header.specs.Answers.{answer-yes, answer-no}
-use Rattle.mapfile.specs.Limits.{most-markers-is}
+use Rattle.field.specs.Limits.{most-markers-is}
 use Rattle.reader.proofs.has_room.Statement.{statement}
 use Rattle.reader.proofs.has_room.Tie as tie
 

@@ -37,6 +37,7 @@ use denote.Triple.Entry.{Vals, onEntry}
 use denote.Triple.Spec.{Meets, tripleOf}
 use denote.Triple.Statement.{Triple}
 use denote.Triple.Table.{entered, cited}
+use Rattle.field.specs.Limits.{marker-slots}
 use Rattle.field.specs.declared.Marker.{Marker}
 use Rattle.field.specs.Map.{most-markers}
 use Rattle.field.proofs.Marker as T
@@ -76,19 +77,19 @@ count-fits : (r : ReadMap) → Is TR.the-row r (answer r ∷ []) → r .count < 
 count-fits r is = LL.owed TR.the-type TR′.the-laws r (answer r ∷ []) is .1 .1 .1 .0 .1
 
 -- An array's length, and what is known of it as a slice, whatever it holds.
-whole-length : (zs : List ℕ) → length zs ≡ length (zeros 4096) → length zs ≡ 4096
-whole-length zs e = e ∙ zeros-length 4096
+whole-length : (zs : List ℕ) → length zs ≡ length (zeros marker-slots) → length zs ≡ marker-slots
+whole-length zs e = e ∙ zeros-length marker-slots
 
-whole-known : (b : ℕ) (zs : List ℕ) → length zs ≡ 4096 → Known u16 b 0 zs (sliceVal (b, 0) 4096 ∷ [])
+whole-known : (b : ℕ) (zs : List ℕ) → length zs ≡ marker-slots → Known u16 b 0 zs (sliceVal (b, 0) marker-slots ∷ [])
 whole-known b zs e = (ap (λ (n : ℕ). sliceVal (b, 0) n ∷ []) (sym e), (omega arith, omega arith))
 
 -- It has a slot for as many markers as may be in use.
-most-fit : (zs : List ℕ) → length zs ≡ 4096 → most-markers ≤ length zs
+most-fit : (zs : List ℕ) → length zs ≡ marker-slots → most-markers ≤ length zs
 unfolding most-markers
 most-fit zs e = omega arith
 
-zeros-room : MarkerRoom (zeros 4096) (zeros 4096) (zeros 4096)
-zeros-room = record { parallel = record { as-xs = refl; as-ys = refl }; most = most-fit (zeros 4096) (zeros-length 4096) }
+zeros-room : MarkerRoom (zeros marker-slots) (zeros marker-slots) (zeros marker-slots)
+zeros-room = record { parallel = record { as-xs = refl; as-ys = refl }; most = most-fit (zeros marker-slots) (zeros-length marker-slots) }
 
 module _ {M : Type 1} (𝓤 : URA M) (H : Heap 𝓤) (A : Atoms 𝓤) (W : Given 𝓤 H A) (mem : Memory → SProp 𝓤) (run : Routine → Fun 𝓤) (κ κ′ : Lft) (q q′ : Share)
     (b o b′ o′ : ℕ) (γ γ′ : GName) (file : List ℕ) (list : List Marker) where
@@ -130,7 +131,7 @@ module _ {M : Type 1} (𝓤 : URA M) (H : Heap 𝓤) (A : Atoms 𝓤) (W : Given
 
   -- An array in the block l, as a slice, and three tokens.
   abbrev varray : ℕ → Val
-  varray l = sliceVal (l, 0) 4096
+  varray l = sliceVal (l, 0) marker-slots
 
   abbrev three : ℕ → ℕ → ℕ → Item 𝓤
   three ν₁ ν₂ ν₃ = ‵ (flft (ν₁ ∷ []) fullShare) ⊛ ‵ (flft (ν₂ ∷ []) fullShare) ⊛ ‵ (flft (ν₃ ∷ []) fullShare) ⊛ ‵ ftrue
@@ -144,7 +145,7 @@ module _ {M : Type 1} (𝓤 : URA M) (H : Heap 𝓤) (A : Atoms 𝓤) (W : Given
       (κ, (ν₁ ∷ [], (ν₂ ∷ [], (ν₃ ∷ [], tt)))),
       (q, (fullShare, (fullShare, (fullShare, tt)))),
       tt,
-      (sliceAt b o γ file, (length list, (sliceAt l₁ 0 δ₁ (zeros 4096), (sliceAt l₂ 0 δ₂ (zeros 4096), (sliceAt l₃ 0 δ₃ (zeros 4096), tt))))),
+      (sliceAt b o γ file, (length list, (sliceAt l₁ 0 δ₁ (zeros marker-slots), (sliceAt l₂ 0 δ₂ (zeros marker-slots), (sliceAt l₃ 0 δ₃ (zeros marker-slots), tt))))),
       (vfile ∷ [], (vint w64 (length list) ∷ [], (varray l₁ ∷ [], (varray l₂ ∷ [], (varray l₃ ∷ [], tt))))),
     ),
     tt,
@@ -172,16 +173,16 @@ module _ {M : Type 1} (𝓤 : URA M) (H : Heap 𝓤) (A : Atoms 𝓤) (W : Given
         qed W (tokens ∷ ‵ (owns (ShrSlice (named 0) κ u8 ∷ MutSlice (named 1) κ′ T.the-row ∷ []) args vals) ∷ []) ∵
         enters ! (𝓣 .C) (𝓣 .Λ) code.function (vfile ∷ vlist ∷ []) Post ((tt, (tt, (record { fits = room .0 }, tt))), ((tt, (tt, (record { fits = room′ .0 }, tt))), tt)) (λ bs.
         -- the arrays are made
-        move ! (3 ∷ 4 ∷ 5 ∷ []) $ makes-array ! w16 4096 tt refl $ move ! (1 ∷ []) $ makes-array ! w16 4096 tt refl $ move ! (2 ∷ []) $ makes-array ! w16 4096 tt refl $
+        move ! (3 ∷ 4 ∷ 5 ∷ []) $ makes-array ! w16 marker-slots tt refl $ move ! (1 ∷ []) $ makes-array ! w16 marker-slots tt refl $ move ! (2 ∷ []) $ makes-array ! w16 marker-slots tt refl $
         move ! (24 ∷ 25 ∷ []) $ split ! $ move ! (1 ∷ []) $ split ! $ move ! (1 ∷ []) $ drop ! $ move ! (2 ∷ []) $ fsplit ! $ move ! (1 ∷ []) $ fsplit ! $ move ! (1 ∷ []) $ drop ! $
         -- and lent to `read_markers`
         sets ! (of-opd ! (field-of ! 9 1 refl refl refl)) 11 refl (tt, record { fits = room′ .0 }) $
         sets ! (addr ! (from ! (stop !))) 12 refl (tt, tt) $ sets ! (agg ! (and-then ! (var ! 12 refl) (and-then ! (lit-big ! (record { fits = lit< tt })) (no-more !)))) 13 refl (tt, (tt, (record { fits = lit< tt }, tt))) $
         sets ! (addr ! (from ! (stop !))) 14 refl (tt, tt) $ sets ! (agg ! (and-then ! (var ! 14 refl) (and-then ! (lit-big ! (record { fits = lit< tt })) (no-more !)))) 15 refl (tt, (tt, (record { fits = lit< tt }, tt))) $
         sets ! (addr ! (from ! (stop !))) 16 refl (tt, tt) $ sets ! (agg ! (and-then ! (var ! 16 refl) (and-then ! (lit-big ! (record { fits = lit< tt })) (no-more !)))) 17 refl (tt, (tt, (record { fits = lit< tt }, tt))) $
-        move ! (6 ∷ []) $ lends-row ! tt u16 (bs .1 .1 .1 .0) 0 (zeros 4096) (varray (bs .1 .1 .1 .0) ∷ []) (whole-known (bs .1 .1 .1 .0) (zeros 4096) (zeros-length 4096)) (λ ν₁ δ₁.
-        move ! (8 ∷ []) $ lends-row ! tt u16 (bs .1 .1 .1 .1 .0) 0 (zeros 4096) (varray (bs .1 .1 .1 .1 .0) ∷ []) (whole-known (bs .1 .1 .1 .1 .0) (zeros 4096) (zeros-length 4096)) (λ ν₂ δ₂.
-        move ! (10 ∷ []) $ lends-row ! tt u16 (bs .1 .1 .1 .1 .1 .0) 0 (zeros 4096) (varray (bs .1 .1 .1 .1 .1 .0) ∷ []) (whole-known (bs .1 .1 .1 .1 .1 .0) (zeros 4096) (zeros-length 4096)) (λ ν₃ δ₃.
+        move ! (6 ∷ []) $ lends-row ! tt u16 (bs .1 .1 .1 .0) 0 (zeros marker-slots) (varray (bs .1 .1 .1 .0) ∷ []) (whole-known (bs .1 .1 .1 .0) (zeros marker-slots) (zeros-length marker-slots)) (λ ν₁ δ₁.
+        move ! (8 ∷ []) $ lends-row ! tt u16 (bs .1 .1 .1 .1 .0) 0 (zeros marker-slots) (varray (bs .1 .1 .1 .1 .0) ∷ []) (whole-known (bs .1 .1 .1 .1 .0) (zeros marker-slots) (zeros-length marker-slots)) (λ ν₂ δ₂.
+        move ! (10 ∷ []) $ lends-row ! tt u16 (bs .1 .1 .1 .1 .1 .0) 0 (zeros marker-slots) (varray (bs .1 .1 .1 .1 .1 .0) ∷ []) (whole-known (bs .1 .1 .1 .1 .1 .0) (zeros marker-slots) (zeros-length marker-slots)) (λ ν₃ δ₃.
         nothing ! $ move ! (1 ∷ 0 ∷ []) $ join ! $ move ! (3 ∷ 0 ∷ []) $ join ! $ move ! (5 ∷ 0 ∷ []) $ join ! $ move ! (10 ∷ 0 ∷ []) $ join ! $ move ! (0 ∷ 8 ∷ 5 ∷ 3 ∷ 1 ∷ []) $
         hands W first.ended FirstC (to-first (bs .1 .1 .1 .0) (bs .1 .1 .1 .1 .0) (bs .1 .1 .1 .1 .1 .0) ν₁ ν₂ ν₃ δ₁ δ₂ δ₃) (true ∷ false ∷ true ∷ true ∷ true ∷ []) (‵ (flft κ q) ⊛ three ν₁ ν₂ ν₃) refl
         ((uint-makes 𝓤 H A W w64, (refl, room′ .0)), tt) (factI 𝓤 _ (emp 𝓤) zeros-room) $
@@ -189,14 +190,14 @@ module _ {M : Type 1} (𝓤 : URA M) (H : Heap 𝓤) (A : Atoms 𝓤) (W : Given
         answer (LL.tells TR.the-type TR′.the-laws) (λ r ws. ReadsMarkers file (length list) (ws .1 .1 .0) (ws .1 .1 .1 .0) (ws .1 .1 .1 .1 .0) r) (λ _ _. refl)
         (and-then ! (var ! 7 refl) (and-then ! (var ! 10 refl) (and-then ! (var ! 12 refl) (and-then ! (var ! 14 refl) (and-then ! (var ! 16 refl) (no-more !))))))
         (λ r ws found is. split ! $ move ! (2 ∷ []) $ fsplit ! $ drop ! $ fsplit ! $ drop ! $ fsplit ! $ move ! (1 ∷ []) $ fsplit ! $ move ! (1 ∷ []) $ fsplit ! $ move ! (1 ∷ []) $ drop ! $
-        move ! (4 ∷ []) $ split ! $ move ! (0 ∷ 8 ∷ 4 ∷ []) $ row-back ! tt u16 (bs .1 .1 .1 .0) 0 (zeros 4096) (ws .1 .1 .0) ν₁ δ₁ (λ e₁.
-        move ! (1 ∷ []) $ split ! $ move ! (0 ∷ 7 ∷ 4 ∷ []) $ row-back ! tt u16 (bs .1 .1 .1 .1 .0) 0 (zeros 4096) (ws .1 .1 .1 .0) ν₂ δ₂ (λ e₂.
-        move ! (1 ∷ []) $ split ! $ move ! (1 ∷ []) $ drop ! $ move ! (0 ∷ 5 ∷ 3 ∷ []) $ row-back ! tt u16 (bs .1 .1 .1 .1 .1 .0) 0 (zeros 4096) (ws .1 .1 .1 .1 .0) ν₃ δ₃ (λ e₃.
+        move ! (4 ∷ []) $ split ! $ move ! (0 ∷ 8 ∷ 4 ∷ []) $ row-back ! tt u16 (bs .1 .1 .1 .0) 0 (zeros marker-slots) (ws .1 .1 .0) ν₁ δ₁ (λ e₁.
+        move ! (1 ∷ []) $ split ! $ move ! (0 ∷ 7 ∷ 4 ∷ []) $ row-back ! tt u16 (bs .1 .1 .1 .1 .0) 0 (zeros marker-slots) (ws .1 .1 .1 .0) ν₂ δ₂ (λ e₂.
+        move ! (1 ∷ []) $ split ! $ move ! (1 ∷ []) $ drop ! $ move ! (0 ∷ 5 ∷ 3 ∷ []) $ row-back ! tt u16 (bs .1 .1 .1 .1 .1 .0) 0 (zeros marker-slots) (ws .1 .1 .1 .1 .0) ν₃ δ₃ (λ e₃.
         land ! (from ! (stop !)) (init ! 9 refl (LL.lawful TR.the-type TR′.the-laws 𝓤 H A W .typed r (answer r ∷ []) is .0)) $
         -- they are shown to `put`, and the list passed on
-        let l₁ : length (ws .1 .1 .0) ≡ 4096 = whole-length (ws .1 .1 .0) e₁ in
-        let l₂ : length (ws .1 .1 .1 .0) ≡ 4096 = whole-length (ws .1 .1 .1 .0) e₂ in
-        let l₃ : length (ws .1 .1 .1 .1 .0) ≡ 4096 = whole-length (ws .1 .1 .1 .1 .0) e₃ in
+        let l₁ : length (ws .1 .1 .0) ≡ marker-slots = whole-length (ws .1 .1 .0) e₁ in
+        let l₂ : length (ws .1 .1 .1 .0) ≡ marker-slots = whole-length (ws .1 .1 .1 .0) e₂ in
+        let l₃ : length (ws .1 .1 .1 .1 .0) ≡ marker-slots = whole-length (ws .1 .1 .1 .1 .0) e₃ in
         sets ! (addr ! (from ! (fld ! refl (hop ! (look-in ! 8 (sub ! 0 refl (whole !))) (stop !))))) 18 refl (tt, tt) $
         sets ! (agg ! (and-then ! (var ! 18 refl) (and-then ! (field-of ! 8 1 refl refl refl) (no-more !)))) 19 refl (tt, (tt, (record { fits = room′ .0 }, tt))) $
         sets ! (addr ! (from ! (stop !))) 20 refl (tt, tt) $ sets ! (agg ! (and-then ! (var ! 20 refl) (and-then ! (lit-big ! (record { fits = lit< tt })) (no-more !)))) 21 refl (tt, (tt, (record { fits = lit< tt }, tt))) $
@@ -212,9 +213,9 @@ module _ {M : Type 1} (𝓤 : URA M) (H : Heap 𝓤) (A : Atoms 𝓤) (W : Given
         (λ _. vunit) nothing-tells (λ _ us. us .0 ≡ putIn list (r .count) (listOf (ws .1 .1 .0) (ws .1 .1 .1 .0) (ws .1 .1 .1 .1 .0))) (λ _ _. refl)
         (and-then ! (var ! 18 refl) (and-then ! (field-of ! 8 3 refl refl refl) (and-then ! (var ! 20 refl) (and-then ! (var ! 22 refl) (and-then ! (var ! 24 refl) (no-more !))))))
         (λ _ us done _. split ! $ move ! (2 ∷ []) $ fsplit ! $ move ! (1 ∷ []) $ drop ! $
-        move ! (2 ∷ []) $ split ! $ move ! (0 ∷ 6 ∷ []) $ row-shown ! tt u16 (bs .1 .1 .1 .0) 0 (ws .1 .1 .0) μ₁ $ room-again ! w16 4096 (bs .1 .1 .1 .0) (ws .1 .1 .0) l₁ $
-        move ! (1 ∷ []) $ split ! $ move ! (0 ∷ 6 ∷ []) $ row-shown ! tt u16 (bs .1 .1 .1 .1 .0) 0 (ws .1 .1 .1 .0) μ₂ $ room-again ! w16 4096 (bs .1 .1 .1 .1 .0) (ws .1 .1 .1 .0) l₂ $
-        move ! (1 ∷ []) $ split ! $ move ! (1 ∷ []) $ drop ! $ move ! (0 ∷ 5 ∷ []) $ row-shown ! tt u16 (bs .1 .1 .1 .1 .1 .0) 0 (ws .1 .1 .1 .1 .0) μ₃ $ room-again ! w16 4096 (bs .1 .1 .1 .1 .1 .0) (ws .1 .1 .1 .1 .0) l₃ $
+        move ! (2 ∷ []) $ split ! $ move ! (0 ∷ 6 ∷ []) $ row-shown ! tt u16 (bs .1 .1 .1 .0) 0 (ws .1 .1 .0) μ₁ $ room-again ! w16 marker-slots (bs .1 .1 .1 .0) (ws .1 .1 .0) l₁ $
+        move ! (1 ∷ []) $ split ! $ move ! (0 ∷ 6 ∷ []) $ row-shown ! tt u16 (bs .1 .1 .1 .1 .0) 0 (ws .1 .1 .1 .0) μ₂ $ room-again ! w16 marker-slots (bs .1 .1 .1 .1 .0) (ws .1 .1 .1 .0) l₂ $
+        move ! (1 ∷ []) $ split ! $ move ! (1 ∷ []) $ drop ! $ move ! (0 ∷ 5 ∷ []) $ row-shown ! tt u16 (bs .1 .1 .1 .1 .1 .0) 0 (ws .1 .1 .1 .1 .0) μ₃ $ room-again ! w16 marker-slots (bs .1 .1 .1 .1 .1 .0) (ws .1 .1 .1 .1 .0) l₃ $
         land ! (from ! (stop !)) (init ! 17 refl (tt, tt)) $
         sets ! (of-opd ! (var ! 9 refl)) 6 refl (LL.lawful TR.the-type TR′.the-laws 𝓤 H A W .typed r (answer r ∷ []) is .0) $ returns ! (look ! 6 refl) $
         nothing ! $ move ! (5 ∷ 0 ∷ []) $ join ! $ move ! (5 ∷ 0 ∷ []) $ join ! $ move ! (0 ∷ 4 ∷ 5 ∷ 6 ∷ 7 ∷ 3 ∷ 2 ∷ 1 ∷ []) $

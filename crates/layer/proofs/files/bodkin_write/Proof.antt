@@ -38,6 +38,7 @@ use denote.Triple.Entry.{Vals, onEntry}
 use denote.Triple.Spec.{Meets, tripleOf}
 use denote.Triple.Statement.{Triple}
 use denote.Triple.Table.{entered, cited}
+use Rattle.field.specs.Limits.{crossing-slots}
 use Rattle.field.specs.declared.Marker.{Marker}
 use Rattle.field.specs.Map.{side}
 use Rattle.field.proofs.Marker as T
@@ -76,14 +77,14 @@ abbrev answer : WroteMap → Val
 answer r = LL.val TW.the-type TW′.the-laws r
 
 -- A front of the array.
-front-length : (s : ℕ) → s ≤ side * side → length (take s (zeros 4096)) ≡ s
+front-length : (s : ℕ) → s ≤ side * side → length (take s (zeros crossing-slots)) ≡ s
 unfolding side
-front-length s l = length-take-le s (zeros 4096) (omega (arith, zeros-length 4096))
+front-length s l = length-take-le s (zeros crossing-slots) (omega (arith, zeros-length crossing-slots))
 
 -- And what is left of the array past it.
-whole-length : (s : ℕ) (zs : List ℕ) → s ≤ side * side → length zs ≡ s → length (zs ++ past s (zeros 4096)) ≡ 4096
+whole-length : (s : ℕ) (zs : List ℕ) → s ≤ side * side → length zs ≡ s → length (zs ++ past s (zeros crossing-slots)) ≡ crossing-slots
 unfolding side
-whole-length s zs l e = omega (arith, length-append zs (past s (zeros 4096)), length-drop s (zeros 4096), zeros-length 4096)
+whole-length s zs l e = omega (arith, length-append zs (past s (zeros crossing-slots)), length-drop s (zeros crossing-slots), zeros-length crossing-slots)
 
 -- What is known of it as a slice, whatever it holds.
 front-known : (b s : ℕ) (zs : List ℕ) → s ≤ side * side → length zs ≡ s → Known u8 b 0 zs (sliceVal (b, 0) s ∷ [])
@@ -91,7 +92,7 @@ unfolding side
 front-known b s zs l e = (ap (λ (n : ℕ). sliceVal (b, 0) n ∷ []) (sym e), (omega arith, omega arith))
 
 -- It is of the map's size.
-fronted : {w h : ℕ} (s : ℕ) → Area w h s → Area w h (length (take s (zeros 4096)))
+fronted : {w h : ℕ} (s : ℕ) → Area w h s → Area w h (length (take s (zeros crossing-slots)))
 fronted {w} {h} s size = subst (Area w h) (sym (front-length s (size .most))) size
 
 module _ {M : Type 1} (𝓤 : URA M) (H : Heap 𝓤) (A : Atoms 𝓤) (W : Given 𝓤 H A) (mem : Memory → SProp 𝓤) (run : Routine → Fun 𝓤) (κ κ′ : Lft) (q q′ : Share)
@@ -152,7 +153,7 @@ module _ {M : Type 1} (𝓤 : URA M) (H : Heap 𝓤) (A : Atoms 𝓤) (W : Given
       (κ, (ν ∷ [], tt)),
       (q, (fullShare, tt)),
       tt,
-      (sliceAt b o γ ys, (count, (w, (h, (0, (0, (0, (0, (true, (sliceAt l 0 δ (take s (zeros 4096)), tt)))))))))),
+      (sliceAt b o γ ys, (count, (w, (h, (0, (0, (0, (0, (true, (sliceAt l 0 δ (take s (zeros crossing-slots)), tt)))))))))),
       (vlist ∷ [], (vint w64 count ∷ [], (vint w64 w ∷ [], (vint w64 h ∷ [], (vint w64 0 ∷ [], (vint w64 0 ∷ [], (vint w64 0 ∷ [], (vint w64 0 ∷ [], (vbool true ∷ [], (vfront l s ∷ [], tt)))))))))),
     ),
     tt,
@@ -183,7 +184,7 @@ module _ {M : Type 1} (𝓤 : URA M) (H : Heap 𝓤) (A : Atoms 𝓤) (W : Given
         enters ! (𝓣 .C) (𝓣 .Λ) code.function (vlist ∷ vint w64 count ∷ vint w64 w ∷ vint w64 h ∷ vout ∷ []) Post
         ((tt, (tt, (record { fits = room .0 }, tt))), ((tt, record { fits = fc }), ((tt, record { fits = fw }), ((tt, record { fits = fh }), ((tt, (tt, (record { fits = room′ .0 }, tt))), tt))))) (λ bs.
         -- the array is made
-        move ! (6 ∷ []) $ makes-array ! w8 4096 tt refl $
+        move ! (6 ∷ []) $ makes-array ! w8 crossing-slots tt refl $
         move ! (16 ∷ 17 ∷ []) $ split ! $ move ! (1 ∷ []) $ split ! $ move ! (1 ∷ []) $ drop ! $ move ! (2 ∷ []) $ fsplit ! $
         move ! (1 ∷ []) $ fsplit ! $ drop ! $ fsplit ! $ drop ! $ fsplit ! $ drop ! $ fsplit ! $ move ! (1 ∷ []) $ drop ! $
         -- how large it is to be
@@ -193,10 +194,10 @@ module _ {M : Type 1} (𝓤 : URA M) (H : Heap 𝓤) (A : Atoms 𝓤) (W : Given
         (and-then ! (load ! (from ! (stop !)) (look ! 9 refl)) (and-then ! (load ! (from ! (stop !)) (look ! 10 refl)) (no-more !)))
         (λ s _ size is-s. drop ! $ drop ! $ land ! (from ! (stop !)) (init ! 11 refl (tt, record { fits = is-s .1 })) $
         -- its front is lent to `prepare`
-        move ! (4 ∷ []) $ parts ! u8 s (bs .1 .1 .1 .1 .1 .1 .0) 0 (zeros 4096) $
+        move ! (4 ∷ []) $ parts ! u8 s (bs .1 .1 .1 .1 .1 .1 .0) 0 (zeros crossing-slots) $
         assigns ! (addr ! (from ! (stop !))) (from ! (stop !)) (init ! 14 refl (tt, tt)) $
         assigns ! (agg ! (and-then ! (load ! (from ! (stop !)) (look ! 14 refl)) (and-then ! (load ! (from ! (stop !)) (look ! 12 refl)) (no-more !)))) (from ! (stop !)) (init ! 15 refl (tt, (tt, (record { fits = is-s .1 }, tt)))) $
-        lends-row ! tt u8 (bs .1 .1 .1 .1 .1 .1 .0) 0 (take s (zeros 4096)) (vfront (bs .1 .1 .1 .1 .1 .1 .0) s ∷ []) (front-known (bs .1 .1 .1 .1 .1 .1 .0) s (take s (zeros 4096)) (size .most) (front-length s (size .most))) (λ ν δ.
+        lends-row ! tt u8 (bs .1 .1 .1 .1 .1 .1 .0) 0 (take s (zeros crossing-slots)) (vfront (bs .1 .1 .1 .1 .1 .1 .0) s ∷ []) (front-known (bs .1 .1 .1 .1 .1 .1 .0) s (take s (zeros crossing-slots)) (size .most) (front-length s (size .most))) (λ ν δ.
         nothing ! $ move ! (1 ∷ 0 ∷ []) $ join ! $ move ! (7 ∷ 0 ∷ []) $ join ! $ move ! (0 ∷ 5 ∷ 1 ∷ []) $
         hands W prepare.ended PrepareC (to-prepare (bs .1 .1 .1 .1 .1 .1 .0) s ν δ) (true ∷ false ∷ false ∷ false ∷ false ∷ false ∷ false ∷ false ∷ false ∷ true ∷ [])
         (‵ (flft κ q) ⊛ ‵ (flft (ν ∷ []) fullShare) ⊛ ‵ ftrue) refl (
@@ -222,11 +223,11 @@ module _ {M : Type 1} (𝓤 : URA M) (H : Heap 𝓤) (A : Atoms 𝓤) (W : Given
           ),
         ) (id⊢ 𝓤 (emp 𝓤)) $
         called ! (fmOf 𝓤 H (W .laws) 𝓣) prepare.ended PrepareC known-prepare (to-prepare (bs .1 .1 .1 .1 .1 .1 .0) s ν δ) (‵ (flft κ q) ⊛ ‵ (flft (ν ∷ []) fullShare) ⊛ ‵ ftrue) refl (vint w8) (uint-tells w8)
-        (λ n ws. Prepared ys count w h 0 0 0 0 true (take s (zeros 4096)) (ws .1 .1 .1 .1 .1 .1 .1 .1 .1 .0) n) (λ _ _. refl)
+        (λ n ws. Prepared ys count w h 0 0 0 0 true (take s (zeros crossing-slots)) (ws .1 .1 .1 .1 .1 .1 .1 .1 .1 .0) n) (λ _ _. refl)
         (and-then ! (load ! (from ! (stop !)) (look ! 6 refl)) (and-then ! (load ! (from ! (stop !)) (look ! 7 refl)) (and-then ! (load ! (from ! (stop !)) (look ! 8 refl)) (and-then ! (load ! (from ! (stop !)) (look ! 9 refl)) (and-then ! (lit ! tt) (and-then ! (lit ! tt) (and-then ! (lit ! tt) (and-then ! (lit ! tt) (and-then ! (true-lit !) (and-then ! (load ! (from ! (stop !)) (look ! 14 refl)) (no-more !)))))))))))
         (λ n ws found is-n. split ! $ move ! (2 ∷ []) $ fsplit ! $ drop ! $ fsplit ! $ drop ! $ fsplit ! $ drop ! $ fsplit ! $ drop ! $ fsplit ! $ drop ! $ fsplit ! $ drop ! $ fsplit ! $ drop ! $ fsplit ! $ drop ! $ fsplit ! $ drop ! $ fsplit ! $ move ! (1 ∷ []) $ drop ! $
         move ! (2 ∷ []) $ split ! $ move ! (1 ∷ []) $ drop ! $ move ! (0 ∷ 3 ∷ 1 ∷ []) $
-        row-back ! tt u8 (bs .1 .1 .1 .1 .1 .1 .0) 0 (take s (zeros 4096)) (ws .1 .1 .1 .1 .1 .1 .1 .1 .1 .0) ν δ (λ long.
+        row-back ! tt u8 (bs .1 .1 .1 .1 .1 .1 .0) 0 (take s (zeros crossing-slots)) (ws .1 .1 .1 .1 .1 .1 .1 .1 .1 .0) ν δ (λ long.
         land ! (from ! (stop !)) (init ! 12 refl (tt, record { fits = is-n .1 })) $
         -- the front is shown to `write_stamped`, and the output passed on
         let same : length (ws .1 .1 .1 .1 .1 .1 .1 .1 .1 .0) ≡ s = long ∙ front-length s (size .most) in
@@ -244,7 +245,7 @@ module _ {M : Type 1} (𝓤 : URA M) (H : Heap 𝓤) (A : Atoms 𝓤) (W : Given
         answer (LL.tells TW.the-type TW′.the-laws) (λ r us. WriteRest n count w h (ws .1 .1 .1 .1 .1 .1 .1 .1 .1 .0) old (us .1 .1 .1 .1 .1 .0) r) (λ _ _. refl)
         (and-then ! (load ! (from ! (stop !)) (look ! 11 refl)) (and-then ! (load ! (from ! (stop !)) (look ! 6 refl)) (and-then ! (load ! (from ! (stop !)) (look ! 7 refl)) (and-then ! (load ! (from ! (stop !)) (look ! 8 refl)) (and-then ! (load ! (from ! (stop !)) (look ! 15 refl)) (and-then ! (load ! (from ! (stop !)) (look ! 17 refl)) (no-more !)))))))
         (λ r us done is-r. split ! $ move ! (0 ∷ 3 ∷ []) $ row-shown ! tt u8 (bs .1 .1 .1 .1 .1 .1 .0) 0 (ws .1 .1 .1 .1 .1 .1 .1 .1 .1 .0) μ $
-        move ! (0 ∷ 4 ∷ []) $ joins ! u8 s (bs .1 .1 .1 .1 .1 .1 .0) 0 (ws .1 .1 .1 .1 .1 .1 .1 .1 .1 .0) (past s (zeros 4096)) same $ room-again ! w8 4096 (bs .1 .1 .1 .1 .1 .1 .0) ((ws .1 .1 .1 .1 .1 .1 .1 .1 .1 .0) ++ past s (zeros 4096)) (whole-length s (ws .1 .1 .1 .1 .1 .1 .1 .1 .1 .0) (size .most) same) $
+        move ! (0 ∷ 4 ∷ []) $ joins ! u8 s (bs .1 .1 .1 .1 .1 .1 .0) 0 (ws .1 .1 .1 .1 .1 .1 .1 .1 .1 .0) (past s (zeros crossing-slots)) same $ room-again ! w8 crossing-slots (bs .1 .1 .1 .1 .1 .1 .0) ((ws .1 .1 .1 .1 .1 .1 .1 .1 .1 .0) ++ past s (zeros crossing-slots)) (whole-length s (ws .1 .1 .1 .1 .1 .1 .1 .1 .1 .0) (size .most) same) $
         move ! (2 ∷ []) $ fsplit ! $ drop ! $ fsplit ! $ drop ! $ fsplit ! $ drop ! $ fsplit ! $ drop ! $ fsplit ! $ drop ! $ fsplit ! $ move ! (1 ∷ []) $ drop ! $ move ! (3 ∷ 2 ∷ []) $ join ! $
         land ! (from ! (stop !)) (init ! 3 refl (LL.lawful TW.the-type TW′.the-laws 𝓤 H A W .typed r (answer r ∷ []) is-r .0)) $
         move ! (0 ∷ 1 ∷ 3 ∷ 4 ∷ 5 ∷ 6 ∷ 7 ∷ 8 ∷ 2 ∷ []) $ returns ! (look ! 2 refl) $

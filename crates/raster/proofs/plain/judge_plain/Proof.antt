@@ -5,7 +5,7 @@ use borrow.Author.Tests.{not-true, not-false}
 use lib.ListN.{length, getD}
 use Rattle.raster.specs.RasterParts.{BitByte}
 use Rattle.header.specs.Answers.{answered-no}
-use Rattle.mapfile.specs.Limits.{crossings-few}
+use Rattle.field.specs.Limits.{crossings-few}
 use Rattle.raster.proofs.JudgingPlain.{
   JudgingPlain,
   judging-start,

@@ -2,7 +2,7 @@
 use mathlib.Core.Path.{refl}
 use native.Mathlib.Omega.{arith}
 use Rattle.mapfile.specs.Raster.{rowBytes}
-use Rattle.mapfile.specs.Limits.{side-is}
+use Rattle.field.specs.Limits.{side-is}
 use Rattle.raster.proofs.raw.row_bytes.Statement.{statement}
 use Rattle.raster.proofs.raw.row_bytes.Tie as tie
 

@@ -1,0 +1,32 @@
+-- The limits as the code's constants have them. Every proof that needs such a number cites it from here.
+use mathlib.Core.Path.{_≡_, refl}
+use Prim.Native.Nat.{ℕ, _*_, _≤_}
+use native.Mathlib.Omega.{arith}
+use native.Mathlib.Nat.{mul-le-mul}
+use Rattle.field.specs.Map.{side, most-markers, Sides}
+
+-- The constants' numbers: SIDE, MOST_CROSSINGS, MOST_MARKERS.
+abbrev pub side-number : ℕ
+side-number = 64
+
+abbrev pub crossing-slots : ℕ
+crossing-slots = 4096
+
+abbrev pub marker-slots : ℕ
+marker-slots = 4096
+
+pub side-is : side ≡ side-number
+unfolding side
+side-is = refl
+
+pub most-markers-is : most-markers ≡ marker-slots
+unfolding most-markers
+most-markers-is = refl
+
+pub most-crossings-is : side * side ≡ crossing-slots
+unfolding side
+most-crossings-is = refl
+
+-- No map has more crossings.
+pub crossings-few : {w h : ℕ} → Sides w h → h * w ≤ crossing-slots
+crossings-few {w} {h} s = omega (arith, most-crossings-is, mul-le-mul {n₁ = h} {m₁ = w} {n₂ = side} {m₂ = side} (s .most-h) (s .most-w))
