@@ -11,7 +11,7 @@ use Rattle.field.specs.Workings.ChooserLaws.{driven-one}
 use Rattle.regions.specs.Outcome.{closed-barred, closed-driven}
 use Rattle.drives.specs.declared.Made.{Made}
 use Rattle.drives.specs.declared.Made.the-variants.{Closed, NoDrive, Short, Filled}
-use Rattle.drives.specs.Promise.{Filling, Makes, madeLength, madeNumber, madeState, Drives}
+use Rattle.drives.specs.Promise.{Filling, Makes}
 
 module _ (w h : ℕ) (s : List ℕ) (sx sy dx dy z : ℕ) where
   abbrev C : ℕ → ℕ → Type 0
@@ -54,14 +54,3 @@ module _ (w h : ℕ) (s : List ℕ) (sx sy dx dy z : ℕ) where
   fill-one-outcome g g₁ g₂ route route₁ route₂ (Filled n z₁) Short p q = absurd (short-full (q .2) (p .2))
   fill-one-outcome g g₁ g₂ route route₁ route₂ (Filled n z₁) (Filled m z₂) p q =
       let f = filling-one route route₁ route₂ n z₁ m z₂ (p .2) (q .2) in (ap₂ Filled (f .0) (f .1), region-sheet-one w h C sx sy dx dy (p .1) (q .1), f .2)
-
-  -- The part handed back, its number and the state: one of each, and one sheet.
-  pub drive-one-outcome : (g g₁ g₂ route part₁ part₂ : List ℕ) (n₁ n₂ z₁ z₂ : ℕ) → Drives w h s sx sy dx dy z g g₁ route part₁ n₁ z₁
-      → Drives w h s sx sy dx dy z g g₂ route part₂ n₂ z₂ → (part₁ ≡ part₂) × (n₁ ≡ n₂) × (z₁ ≡ z₂) × (g₁ ≡ g₂)
-  drive-one-outcome g g₁ g₂ route part₁ part₂ n₁ n₂ z₁ z₂ p q =
-      let f = fill-one-outcome g g₁ g₂ route (p .route′) (q .route′) (p .made) (q .made) (p .makes) (q .makes) in (
-        p .part-is ∙ ap₂ (λ (r : Made) (l : List ℕ). take (madeLength r) l) (f .0) (f .2) ∙ sym (q .part-is),
-        p .number-is ∙ ap madeNumber (f .0) ∙ sym (q .number-is),
-        p .state-is ∙ ap (madeState z) (f .0) ∙ sym (q .state-is),
-        f .1,
-      )

@@ -50,13 +50,3 @@ madeState z Closed = z
 madeState z NoDrive = z
 madeState z Short = z
 madeState z (Filled n z′) = z′
-
--- The part that is handed back is the leading part of the route that `fill` leaves: the drive itself, or on a refusal nothing. The number goes
--- out through a lent number, and the state through another, which on a refusal stays.
-pub record Drives (w h : ℕ) (s : List ℕ) (sx sy dx dy z : ℕ) (g g′ route part : List ℕ) (number z′ : ℕ) : Type 0 where
-  pub made : Made
-  pub route′ : List ℕ
-  pub makes : Makes w h s sx sy dx dy z g g′ route route′ made
-  pub part-is : part ≡ take (madeLength made) route′
-  pub number-is : number ≡ madeNumber made
-  pub state-is : z′ ≡ madeState z made

@@ -5,17 +5,8 @@ ghost use mathlib.Core.Path.{_≡_};
 ghost use Prim.Native.Nat.{_*_, _%_};
 ghost use Rattle.field.specs.Chooser.{drawn};
 ghost use Rattle.regions.specs.Promise.{Asked};
-ghost use Rattle.drives.specs.Promise.{Makes, Drives};
+ghost use Rattle.drives.specs.Promise.{Makes};
 use regions::Found;
-
-// Document 01's refusal numbers.
-const SUCCESS: u8 = 0;
-
-const END_CLOSED: u8 = 8;
-
-const NO_DRIVE: u8 = 9;
-
-const SHORT_ROUTE: u8 = 10;
 
 // What asking for a drive makes: nothing, an end being closed (8), there being no shortest drive (9) or the route too short (10); or so many
 // crossings at the route's front, and the state after it.
@@ -69,49 +60,6 @@ pub fn fill(
             }
             let state = chooser::write_drive(g, w, h, sx, sy, dx, dy, z, route);
             Made::Filled(n, state)
-        }
-    }
-}
-
-// The chooser's drive from (sx, sy) to (dx, dy) in the lent state, handed back as the leading part of the lent route: s first and d last, and on
-// a refusal empty. The refusal's number, 0 on success, goes out through `refusal`. The promise speaks of the part that is handed back, and of the
-// route as `fill` leaves it; it cannot speak of the caller's whole slice as this call ends, since the part handed back still borrows it. That the
-// rest of the route is unchanged is what `fill` promises, and nothing is written after it.
-pub fn drive<'a>(
-    s: &[u8],
-    w: usize,
-    h: usize,
-    sx: usize,
-    sy: usize,
-    dx: usize,
-    dy: usize,
-    g: &mut [u8],
-    route: &'a mut [u16],
-    refusal: &mut u8,
-    state: &mut u32,
-) -> &'a mut [u16]
-    requires { ⌜ Asked w h (now s) (now g) sx sy dx dy ⌝ }
-    ensures { λ r. ⌜ Drives w h (now (s .entry)) sx sy dx dy (now (state .entry)) (now (g .entry)) (now (g .exit)) (now (route .entry)) (now r) (now (refusal .exit)) (now (state .exit)) ⌝ }
-{
-    let z = *state;
-    let made = fill(s, w, h, sx, sy, dx, dy, z, g, route);
-    match made {
-        Made::Closed => {
-            *refusal = END_CLOSED;
-            &mut route[..0]
-        }
-        Made::NoDrive => {
-            *refusal = NO_DRIVE;
-            &mut route[..0]
-        }
-        Made::Short => {
-            *refusal = SHORT_ROUTE;
-            &mut route[..0]
-        }
-        Made::Filled(n, after) => {
-            *refusal = SUCCESS;
-            *state = after;
-            &mut route[..n]
         }
     }
 }
