@@ -2,21 +2,21 @@
 --     list         after any sequence of enter and clear calls the list is well formed, and no marker is lost on the way
 --     groups       labelling such a list, every group is a full rectangle, any two groups at least three hops apart
 --     way home     a cart whose home is assured, and that asks for hops and takes any that is named, is there after exactly the distance
---     refusal 9    between open ends it is given exactly where there is no shortest drive
+--     drive        a drive that is given is a shortest drive; between open ends 9 is given exactly where there is none
 use mathlib.Core.Path.{_≡_}
 use mathlib.Core.Bool.{true}
 use mathlib.Core.List.{List}
 use mathlib.Core.Logic.{_↔_}
 use Prim.Native.Nat.{ℕ, _+_, _*_, _≤_}
 use native.Mathlib.Omega.{arith}
-use lib.ListN.{length}
+use lib.ListN.{length, take}
 use Rattle.field.specs.declared.Marker.{Marker}
 use Rattle.field.specs.Map.{Sides, dist}
 use Rattle.field.specs.Refusals.{no-drive}
 use Rattle.field.specs.Labels.{Open}
 use Rattle.field.specs.Groups.{Linked, GroupsApart}
 use Rattle.field.specs.Hops.{Permitted, There}
-use Rattle.field.specs.Drives.{HasDrive}
+use Rattle.field.specs.Drives.{ShortestDrive, HasDrive}
 use Rattle.field.specs.Geometry.Shapes.{Rectangle}
 use Rattle.field.specs.Geometry.WayHome
 use Rattle.field.specs.Workings.GridLaws.{dist-none, dist-zero}
@@ -27,7 +27,7 @@ use Rattle.markers.specs.Reached.{Reached}
 use Rattle.markers.specs.Theorems
 use Rattle.calls.specs.Rules.{ClosedBy}
 use Rattle.calls.specs.Calls.{EnterCall, ClearCall, LabelCall, AssuredCall, HopCall, RegionCall, DriveCall}
-use Rattle.calls.specs.Sequences.{CountAfter, Calls, Names, SaysThere, Journey, move}
+use Rattle.calls.specs.Sequences.{CountAfter, Calls, Sparing, Names, SaysThere, Journey, move}
 use Rattle.calls.specs.ListCalls
 use Rattle.calls.specs.ListCalls.{AsOften}
 use Rattle.calls.specs.LabelCalls
@@ -60,6 +60,9 @@ module _ {w h : ℕ} {list : List Marker} {count : ℕ} (calls : Calls w h list 
     pub calls-rectangles : (x y : ℕ) → Marked labels′ w h x y → Rectangle (Marked labels′ w h) x y
     calls-rectangles = LabelCalls.label-rectangles asked calls-labelled
 
+    pub calls-closed-apart : (x y a b : ℕ) → Marked labels′ w h x y → Marked labels′ w h a b → ¬ Linked (Marked labels′ w h) x y a b → 3 ≤ dist x y a b
+    calls-closed-apart = LabelCalls.label-closed-apart asked calls-labelled
+
     pub calls-three-apart : {x y a b n : ℕ} → GroupsApart (Marked labels′ w h) x y a b n → ¬ Linked (Marked labels′ w h) x y a b → 3 ≤ n
     calls-three-apart = LabelCalls.label-three-apart asked calls-labelled
 
@@ -83,6 +86,12 @@ module _ {list list′ : List Marker} {count w h id next : ℕ} {r : Counted} (c
 
   pub clear-refused-nothing : ¬ (r .refusal ≡ 0) → (list′ ≡ list) × (next ≡ count)
   clear-refused-nothing n = (call .refused n .0, after .old n)
+
+-- Over a sequence: a marker that stands in the list, on its crossing and under its id, stands there exactly once still, whatever else is entered and
+-- cleared, as long as no call asks for its id to be cleared. So none is dropped, moved or joined.
+pub marker-kept : {w h count next : ℕ} {list after : List Marker} {m : Marker} → Times m (inUse list count) 1
+    → Sparing w h (m .id) list count after next → Times m (inUse after next) 1
+marker-kept = ListCalls.spared
 
 -- The way home. The cart has asked whether home (hx, hy) is assured for (x, y), and the answer was yes.
 module _ {list : List Marker} {count w h hx hy x y : ℕ} {labels labels′ : List ℕ} {r : Assurance} (asked : AssuredCall list count w h hx hy x y labels labels′ r)
@@ -119,6 +128,12 @@ module _ {list : List Marker} {count w h hx hy x y : ℕ} {labels labels′ : Li
 
     pub journey-moves : (c d : ℕ) → Names s c d → Journey list count w h hx hy x y (n + 1) c d
     journey-moves c d k = move {m = n + 1} way next journey-not-refused k (omega arith)
+
+-- A drive call that is not refused: the route's front is a shortest drive, s first and d last.
+pub drive-is-shortest : {list : List Marker} {count w h sx sy dx dy : ℕ} {labels region route labels′ region′ route′ : List ℕ} {state state′ : ℕ} {r : Drove}
+    → DriveCall list count w h sx sy dx dy labels region route state labels′ region′ route′ state′ r → r .refusal ≡ 0
+    → ShortestDrive w h (ClosedBy list count w h) sx sy dx dy (take (r .length) route′)
+drive-is-shortest = DriveCalls.drive-shortest
 
 -- Refusal 9, asked between open ends with nothing else amiss: exactly where there is no shortest drive.
 module _ {list : List Marker} {count w h sx sy dx dy : ℕ} {labels region : List ℕ} (fits : BetweenOpen list count w h sx sy dx dy labels region) where

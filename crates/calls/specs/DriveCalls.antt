@@ -1,19 +1,24 @@
 -- Region and drive calls between open ends, on a map of document 01's size with fitting sheets and a well-formed list: of their rows only 9 and 10 can
--- apply, and 9 does exactly where there is no shortest drive.
+-- apply, and 9 does exactly where there is no shortest drive. A drive that is not refused is one.
 use mathlib.Core.Path.{_≡_}
 use mathlib.Core.List.{List, [], _∷_}
 use mathlib.Core.Logic.{_↔_, _⊎_, inl, inr}
 use Prim.Native.Nat.{ℕ, _*_}
-use lib.ListN.{length}
+use native.Mathlib.Omega.{arith}
+use lib.ListN.{length, take}
 use Rattle.field.specs.declared.Marker.{Marker}
 use Rattle.field.specs.Map.{Sides, On}
 use Rattle.field.specs.Refusals.{no-drive}
 use Rattle.field.specs.Labels.{Open}
-use Rattle.field.specs.Drives.{HasDrive}
+use Rattle.field.specs.Drives.{ShortestDrive, HasDrive}
+use Rattle.field.specs.Workings.Sheet.{Draws}
+use Rattle.field.specs.Workings.Labelling.{label-sheet-draws}
+use Rattle.field.specs.Workings.ReachLaws.{has-drive-dec}
+use Rattle.field.specs.Workings.ChooserLaws.{driven-shortest}
 use Rattle.markers.specs.List.{WellFormed}
 use Rattle.calls.specs.Rules
-use Rattle.calls.specs.Rules.{ClosedBy, Misfit}
-use Rattle.calls.specs.RuleLaws.{sheets-fit}
+use Rattle.calls.specs.Rules.{RocksOf, ClosedBy, Misfit}
+use Rattle.calls.specs.RuleLaws.{None, gives-none, holds, on-holds, sheets-fit}
 use Rattle.calls.specs.Calls.{RegionCall, DriveCall}
 use Rattle.calls.specs.Exactly.{region-exactly, drive-exactly}
 use Rattle.answers.specs.declared.Drove.{Drove}
@@ -61,3 +66,27 @@ module _ {list : List Marker} {count w h sx sy dx dy : ℕ} {labels region : Lis
       → DriveCall list count w h sx sy dx dy labels region route state labels′ region′ route′ state′ r
       → (r .refusal ≡ no-drive) ↔ (¬ HasDrive w h (ClosedBy list count w h) sx sy dx dy)
   drive-nine c = nine (drive-exactly c .1 .1 .1 .1 .1 .0)
+
+-- A drive that is not refused is a shortest drive from s to d, at the route's front.
+module _ {list : List Marker} {count w h sx sy dx dy : ℕ} {labels region route labels′ region′ route′ : List ℕ} {state state′ : ℕ} {r : Drove}
+    (c : DriveCall list count w h sx sy dx dy labels region route state labels′ region′ route′ state′ r) (z : r .refusal ≡ 0) where
+  abbrev C : ℕ → ℕ → Type 0
+  C = ClosedBy list count w h
+
+  passed : None (Rules.drive-table list count w h sx sy dx dy labels region route)
+  passed = gives-none (Rules.drive-table list count w h sx sy dx dy labels region route) 0 (r .refusal) (omega arith) (c .given) z
+
+  draws : Draws w h C labels′
+  draws = label-sheet-draws (RocksOf list count) w h labels′ (c .labels-after .labelled (λ t. omega arith))
+
+  from-open : Open w h C sx sy
+  from-open = record { on = on-holds (λ n. passed .1 .1 .1 .0 (inl n)); free = λ k. passed .1 .1 .1 .1 .0 (inl k) }
+
+  to-open : Open w h C dx dy
+  to-open = record { on = on-holds (λ n. passed .1 .1 .1 .0 (inr n)); free = λ k. passed .1 .1 .1 .1 .0 (inr k) }
+
+  pub drive-shortest : ShortestDrive w h C sx sy dx dy (take (r .length) route′)
+  drive-shortest =
+      driven-shortest w h C sx sy dx dy
+      (holds (has-drive-dec w h C labels′ draws sx sy dx dy) (λ n. passed .1 .1 .1 .1 .1 .0 (from-open, to-open, n)))
+      (c .done z .0)

@@ -6,7 +6,7 @@ use Prim.Native.Nat.{ℕ, _*_, _≤_}
 use native.Mathlib.Omega.{arith}
 use lib.ListN.{length}
 use Rattle.field.specs.declared.Marker.{Marker}
-use Rattle.field.specs.Map.{Sides, OnMap}
+use Rattle.field.specs.Map.{Sides, OnMap, dist}
 use Rattle.field.specs.Labels.{between, Stable, LabelSheet}
 use Rattle.field.specs.Groups.{Linked, GroupsApart}
 use Rattle.field.specs.Geometry.Shapes.{Rectangle}
@@ -42,6 +42,10 @@ module _ {list : List Marker} {count w h : ℕ} {labels labels′ : List ℕ} {r
 
     pub label-rectangles : (x y : ℕ) → Marked labels′ w h x y → Rectangle (Marked labels′ w h) x y
     label-rectangles = Rectangles.group-rectangle w h (Marked labels′ w h) marked-on marked-stable (marked-dec labels′ w h)
+
+    -- Two closed crossings of different groups are at least three hops apart, and so is the distance of the groups.
+    pub label-closed-apart : (x y a b : ℕ) → Marked labels′ w h x y → Marked labels′ w h a b → ¬ Linked (Marked labels′ w h) x y a b → 3 ≤ dist x y a b
+    label-closed-apart = Apart.three-apart w h (Marked labels′ w h) marked-on marked-stable
 
     pub label-three-apart : {x y a b n : ℕ} → GroupsApart (Marked labels′ w h) x y a b n → ¬ Linked (Marked labels′ w h) x y a b → 3 ≤ n
     label-three-apart = Apart.groups-three-apart w h (Marked labels′ w h) marked-on marked-stable

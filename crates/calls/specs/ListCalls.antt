@@ -13,11 +13,12 @@ use Rattle.markers.specs.List.{slot, WellFormed, InUse, inUse, Same, Times}
 use Rattle.markers.specs.Promise.{marker}
 use Rattle.markers.specs.Reached
 use Rattle.markers.specs.Reached.{Reached}
-use Rattle.markers.specs.Laws.Times.{times-some, times-one, entered-other, entered-once, cleared-other, cleared-gone}
+use Rattle.markers.specs.Laws.Times.{times-some, times-one, times-fresh, entered-other, entered-once, cleared-other, cleared-gone}
 use Rattle.calls.specs.Rules
 use Rattle.calls.specs.RuleLaws.{gives-none, holds, on-holds, formed-holds}
 use Rattle.calls.specs.Calls.{EnterCall, ClearCall}
-use Rattle.calls.specs.Sequences.{CountAfter, Calls, empty, enter, clear}
+use Rattle.calls.specs.Sequences.{CountAfter, Calls, empty, enter, clear, Sparing}
+use Rattle.calls.specs.Sequences as sequences
 use Rattle.calls.specs.declared.Counted.{Counted}
 
 -- What an enter call that succeeds was given.
@@ -139,3 +140,18 @@ module _ {list list′ : List Marker} {count w h id next : ℕ} {r : Counted} (c
       let u = c .done z in
       let f = clear-formed c z in
       cleared-gone next (f .lent) (u .0) (omega (arith, o .new z, u .1)) (f .rising)
+
+-- A marker that stands in the list stands there once still, after any sequence of calls that do not clear its id. Entering its id again is refused,
+-- since the id is in use.
+pub spared : {w h count : ℕ} {list : List Marker} {m : Marker} {after : List Marker} {next : ℕ} → Times m (inUse list count) 1
+    → Sparing w h (m .id) list count after next → Times m (inUse after next) 1
+spared p (sequences.Sparing.start e f) = rw (e, f) p
+spared {m = m} p (sequences.Sparing.enter {mid} {after} {n} {next} new x y r s c o) = go (ℕ-discrete (r .refusal) 0) (spared p s)
+  where
+    go : Dec (r .refusal ≡ 0) → Times m (inUse mid n) 1 → Times m (inUse after next) 1
+    go (yes z) t =
+        let other : ¬ Same (marker new x y) m =
+        λ e. let none : _≡_ {A = ℕ} 1 0 = times-one t (times-fresh (λ u. enter-passed c z .fresh (subst (InUse mid n) (sym (e .id)) u))) in omega arith in
+        enter-others c o m other 1 .0 t
+    go (no z) t = same-often (c .refused z .0) (o .old z) 1 .0 t
+spared {m = m} p (sequences.Sparing.clear old r d s c o) = clear-others c o m d 1 .0 (spared p s)

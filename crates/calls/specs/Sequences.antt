@@ -22,6 +22,14 @@ pub data Calls (w h : ℕ) : List Marker → ℕ → Type 0 where
   clear : {list after : List Marker} {count next : ℕ} (id : ℕ) (r : Counted) → Calls w h list count → ClearCall list count w h id after r
       → CountAfter count r next → Calls w h after next
 
+-- Any sequence of enter and clear calls, refused ones too, none of which asks for this id to be cleared: from one list and count to another.
+pub data Sparing (w h id : ℕ) (list : List Marker) (count : ℕ) : List Marker → ℕ → Type 0 where
+  start : {after : List Marker} {next : ℕ} → after ≡ list → next ≡ count → Sparing w h id list count after next
+  enter : {mid after : List Marker} {n next : ℕ} (new x y : ℕ) (r : Counted) → Sparing w h id list count mid n → EnterCall mid n w h new x y after r
+      → CountAfter n r next → Sparing w h id list count after next
+  clear : {mid after : List Marker} {n next : ℕ} (old : ℕ) (r : Counted) → ¬ (id ≡ old) → Sparing w h id list count mid n → ClearCall mid n w h old after r
+      → CountAfter n r next → Sparing w h id list count after next
+
 -- A hop call's answer names the crossing (a, b), as its first or as its second.
 abbrev pub Names : Homeward → ℕ → ℕ → Type 0
 Names r a b = ((1 ≤ r .hops) × (r .x ≡ a) × (r .y ≡ b)) ⊎ ((2 ≤ r .hops) × (r .a ≡ a) × (r .b ≡ b))

@@ -1,21 +1,18 @@
 -- Document 01's settled examples 1 to 11 as one table of rows, and what it means that a row holds, said with the meanings.
 -- "Map 8 by 8 unless said. Those with * are the proved set." That every row holds is proved in Settled.
 use mathlib.Core.Path.{_≡_}
-use mathlib.Core.Bool.{cond}
 use mathlib.Core.List.{List, [], _∷_}
 use mathlib.Core.Logic.{_↔_}
 use Prim.Native.Nat.{ℕ, suc, _+_, _≤_}
 use lib.ListN.{length}
 use Rattle.field.specs.declared.Marker.{Marker}
-use Rattle.field.specs.Map.{On, no-distance}
-use Rattle.field.specs.Labels.{Rock, RockOn, Closed, Open, Shut, LabelSheet, Count}
+use Rattle.field.specs.Map.{On}
+use Rattle.field.specs.Labels.{Rock, RockOn, Closed, Open, Shut, Count}
 use Rattle.field.specs.Groups.{Linked, Groups}
 use Rattle.field.specs.Distances.{Way, Clear, Distances, Assured}
 use Rattle.field.specs.Drives.{ShortestDrive, HasDrive, InRegion}
 use Rattle.field.specs.Chooser.{Driven}
 use Rattle.field.specs.Geometry.Shapes.{Within}
-use Rattle.field.specs.Workings.Sheet.{bit, sheet}
-use Rattle.field.specs.Workings.Stamping.{rockOf}
 
 -- "Map 8 by 8 unless said."
 abbrev pub wide : ℕ
@@ -43,19 +40,19 @@ RocksOn ps = Rock (markersOn ps)
 abbrev pub ClosedBy : List Place → ℕ → ℕ → Type 0
 ClosedBy ps = Closed (RocksOn ps) wide high
 
--- A label sheet drawn from its rocks and its shut crossings: 1 on the rocks, 2 on the shut ones, and 0 elsewhere.
-abbrev pub picture : List Place → List Place → List ℕ
-picture rocks shut =
-    sheet wide high (λ x y. cond (rockOf (markersOn rocks) x y) 1 (cond (rockOf (markersOn shut) x y) 2 0))
+-- Each of the places is shut by the rocks.
+abbrev pub EachShut : List Place → List Place → Type 0
+EachShut rocks [] = Unit {0}
+EachShut rocks (p ∷ ps) = Shut (RocksOn rocks) wide high (p .x) (p .y) × EachShut rocks ps
 
 -- One example's claim.
 pub data Row : Type 0 where
-  -- these rocks, on as many crossings, have these shut crossings and nothing else, and so many groups and open crossings
+  -- these rocks, on as many crossings, shut each of these crossings and no more than as many, and leave so many groups and open crossings
   labels : (rocks shut : List Place) (groups opens : ℕ) → Row
   -- the group of (x₀, y₀) is x₀ to x₁ by y₀ to y₁
   group : (rocks : List Place) (x₀ x₁ y₀ y₁ : ℕ) → Row
-  -- each distance of each crossing is the mark for none
-  no-distances : (rocks : List Place) → Row
+  -- each distance of each crossing is n
+  each-distance : (rocks : List Place) (n : ℕ) → Row
   -- the four distances of a place
   distances : (rocks : List Place) (x y : ℕ) (four : List ℕ) → Row
   -- home (hx, hy) is assured for (x, y), or is not
@@ -73,13 +70,13 @@ pub data Row : Type 0 where
 -- What a row claims, in the words of the meanings.
 abbrev pub Holds : Row → Type 0
 Holds (labels rocks shut groups opens) =
-    LabelSheet (RocksOn rocks) wide high (picture rocks shut)
+    EachShut rocks shut
     × Count wide high (RockOn (RocksOn rocks) wide high) (length rocks)
     × Count wide high (Shut (RocksOn rocks) wide high) (length shut)
     × Groups wide high (ClosedBy rocks) groups
     × Count wide high (Open wide high (ClosedBy rocks)) opens
 Holds (group rocks x₀ x₁ y₀ y₁) = (a b : ℕ) → Linked (ClosedBy rocks) x₀ y₀ a b ↔ Within x₀ x₁ y₀ y₁ a b
-Holds (no-distances rocks) = (t : Way) (x y : ℕ) → On wide high x y → Clear (ClosedBy rocks) t x y no-distance
+Holds (each-distance rocks n) = (t : Way) (x y : ℕ) → On wide high x y → Clear (ClosedBy rocks) t x y n
 Holds (distances rocks x y four) = Distances (ClosedBy rocks) x y four
 Holds (assured rocks hx hy x y) = Assured wide high (ClosedBy rocks) hx hy x y
 Holds (not-assured rocks hx hy x y) = ¬ Assured wide high (ClosedBy rocks) hx hy x y
@@ -104,7 +101,7 @@ unfoldable pub table : List Row
 table =
     -- 1. "No rocks: all 64 open; each distance 255."
     labels [] [] 0 64
-    ∷ no-distances []
+    ∷ each-distance [] 255
     -- 2. "Rocks (1,1), (1,2), (2,1): (2,2) shut, nothing else."
     ∷ labels (place 1 1 ∷ place 1 2 ∷ place 2 1 ∷ []) (place 2 2 ∷ []) 1 60
     -- 3. "Rocks (1,1), (3,1): (2,1) shut."
@@ -117,8 +114,8 @@ table =
     ∷ labels R (place 4 2 ∷ place 3 3 ∷ place 5 3 ∷ []) 1 58
     ∷ group R 3 5 2 3
     -- 7. "R: (0,2) has 3, 255, 255, 255; (4,0) has 255, 255, 255, 2; (4,2) has four zeros."
-    ∷ distances R 0 2 (3 ∷ no-distance ∷ no-distance ∷ no-distance ∷ [])
-    ∷ distances R 4 0 (no-distance ∷ no-distance ∷ no-distance ∷ 2 ∷ [])
+    ∷ distances R 0 2 (3 ∷ 255 ∷ 255 ∷ 255 ∷ [])
+    ∷ distances R 4 0 (255 ∷ 255 ∷ 255 ∷ 2 ∷ [])
     ∷ distances R 4 2 (0 ∷ 0 ∷ 0 ∷ 0 ∷ [])
     -- 8. "R, home (0,2): assured for (2,5), not for (3,5), not for (4,5)."
     ∷ assured R 0 2 2 5

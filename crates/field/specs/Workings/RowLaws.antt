@@ -1,24 +1,23 @@
 -- A row of the table of settled examples that passes its test holds: each test is made of workings, and each working agrees with its meaning.
 use mathlib.Core.Path.{_≡_, sym, subst, _∙_}
 use mathlib.Core.Bool.{Bool, true, _||_, false≢true}
-use mathlib.Core.List.{List}
+use mathlib.Core.List.{List, [], _∷_}
 use mathlib.Core.Logic.{_↔_}
 use Prim.Native.Nat.{ℕ, suc}
 use native.Mathlib.Omega.{arith}
 use lib.Dec.{ltb, eqb}
 use lib.ListN.{length}
 use borrow.Author.Tests.{ltb-true, eqb-true, le-ltb, not-true}
-use Rattle.field.specs.Map.{dist, no-distance}
+use Rattle.field.specs.Map.{dist}
 use Rattle.field.specs.Labels.{RockOn, closed-on-map, closed-stable, Open, Shut, Count}
 use Rattle.field.specs.Groups.{Groups}
 use Rattle.field.specs.Drives.{HasDrive, InRegion, RegionSheet}
-use Rattle.field.specs.Table.{Row, labels, group, no-distances, distances, assured, not-assured, refused-9, drive, region, outside, driven, Holds, Place, wide, high, markersOn, RocksOn, ClosedBy, picture}
+use Rattle.field.specs.Table.{Row, labels, group, each-distance, distances, assured, not-assured, refused-9, drive, region, outside, driven, Holds, Place, wide, high, markersOn, RocksOn, ClosedBy, EachShut}
 use Rattle.field.specs.Workings.Tests.{and-split, test-dec}
 use Rattle.field.specs.Workings.Sheet.{Draws, lit}
 use Rattle.field.specs.Workings.Marks.{drawn-lit, drawn-looks}
 use Rattle.field.specs.Workings.Closing.{closing-draws}
 use Rattle.field.specs.Workings.Stamping.{stamp-draws}
-use Rattle.field.specs.Workings.Labelling.{labels-labelling}
 use Rattle.field.specs.Workings.Counting.{count-marks, count-tests}
 use Rattle.field.specs.Workings.Corners.{every-two, groups-look, rectangle-looks}
 use Rattle.field.specs.Workings.Looking.{openOf}
@@ -28,7 +27,7 @@ use Rattle.field.specs.Workings.AssuredLaws.{open-looks, open-dec, assur
 use Rattle.field.specs.Workings.RegionLaws.{has-drive-in, region-sheet-draws}
 use Rattle.field.specs.Workings.ReachLaws.{region-made}
 use Rattle.field.specs.Workings.ChoosingLaws.{driven-looks}
-use Rattle.field.specs.Workings.RowTests.{same-is, rockSheet, closedSheet, regionSheet, alone, alone-looks, no-distance-at, none-each, passes}
+use Rattle.field.specs.Workings.RowTests.{same-is, rockSheet, closedSheet, regionSheet, alone, alone-looks, eachAlone, distance-at, each-way, passes}
 
 module _ (rocks : List Place) where
   -- R tells the row's rocks and C its closed crossings; r and c are their sheets.
@@ -61,6 +60,11 @@ module _ (rocks : List Place) where
         record { closed = k .0; bare = λ m. k .1 (record { on = closed-on-map R wide high x y (k .0); stone = m }) },
   )
 
+  each-shut : (shut : List Place) → eachAlone r c shut ≡ true → EachShut rocks shut
+  unfolding eachAlone
+  each-shut [] e = tt
+  each-shut (p ∷ ps) e = let f = and-split _ _ e in (shut-looks (p .x) (p .y) .1 (f .0), each-shut ps (f .1))
+
   labels-hold : (shut : List Place) (groups opens : ℕ) → passes (labels rocks shut groups opens) ≡ true → Holds (labels rocks shut groups opens)
   unfolding passes
   labels-hold shut groups opens e =
@@ -68,7 +72,7 @@ module _ (rocks : List Place) where
       let g = and-split _ _ (f .0) in
       let k = and-split _ _ (f .1) in
       let m = and-split _ _ (k .0) in (
-        labels-labelling R wide high r rocks-draw (picture rocks shut) .1 (same-is _ _ (g .0)),
+        each-shut shut (g .0),
         count-marks wide high (RockOn R wide high) r rocks-draw (length rocks) .1 (eqb-true _ _ (g .1)),
         subst (Count wide high (Shut R wide high)) (sym (eqb-true _ _ (m .0)))
             (count-tests wide high (Shut R wide high) (alone r c) (λ x y o. shut-looks x y) (λ x y. test-dec (alone r c x y) (shut-looks x y))),
@@ -83,11 +87,11 @@ module _ (rocks : List Place) where
   unfolding passes
   group-holds = rectangle-looks wide high C c closed-draw (closed-on-map R wide high) (closed-stable R wide high)
 
-  no-distances-hold : passes (no-distances rocks) ≡ true → Holds (no-distances rocks)
+  each-distance-holds : (n : ℕ) → passes (each-distance rocks n) ≡ true → Holds (each-distance rocks n)
   unfolding passes
-  no-distances-hold e t x y o =
-      clear-looks wide high C c closed-draw t x y no-distance o .1
-      (sym (none-each c x y (every-two high wide (no-distance-at c) e x y (o .in-x) (o .in-y)) t))
+  each-distance-holds n e t x y o =
+      clear-looks wide high C c closed-draw t x y n o .1
+      (sym (each-way n c x y (every-two high wide (distance-at n c) e x y (o .in-x) (o .in-y)) t))
 
   distances-hold : (x y : ℕ) (four : List ℕ) → passes (distances rocks x y four) ≡ true → Holds (distances rocks x y four)
   unfolding passes
@@ -168,7 +172,7 @@ module _ (rocks : List Place) where
 pub passes-holds : (r : Row) → passes r ≡ true → Holds r
 passes-holds (labels rocks shut groups opens) = labels-hold rocks shut groups opens
 passes-holds (group rocks x₀ x₁ y₀ y₁) = group-holds rocks x₀ x₁ y₀ y₁
-passes-holds (no-distances rocks) = no-distances-hold rocks
+passes-holds (each-distance rocks n) = each-distance-holds rocks n
 passes-holds (distances rocks x y four) = distances-hold rocks x y four
 passes-holds (assured rocks hx hy x y) = assured-holds rocks hx hy x y
 passes-holds (not-assured rocks hx hy x y) = not-assured-holds rocks hx hy x y

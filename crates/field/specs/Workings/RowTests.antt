@@ -9,15 +9,14 @@ use native.Mathlib.Omega.{arith}
 use lib.Dec.{ltb, eqb}
 use lib.ListN.{length}
 use borrow.Author.Tests.{ltb-true, lt-ltb, eqb-true}
-use Rattle.field.specs.Map.{dist, no-distance}
+use Rattle.field.specs.Map.{dist}
 use Rattle.field.specs.Distances.{Way, eastward, southward, westward, northward}
-use Rattle.field.specs.Table.{Row, labels, group, no-distances, distances, assured, not-assured, refused-9, drive, region, outside, driven, Place, wide, high, markersOn, picture}
+use Rattle.field.specs.Table.{Row, labels, group, each-distance, distances, assured, not-assured, refused-9, drive, region, outside, driven, Place, wide, high, markersOn}
 use Rattle.field.specs.Workings.Tests.{bit, and-split}
 use Rattle.field.specs.Workings.Sheet.{Draws, lit}
 use Rattle.field.specs.Workings.Marks.{lit-le, drawn-lit, lit-drawn, undrawn-lit}
 use Rattle.field.specs.Workings.Closing.{closing}
 use Rattle.field.specs.Workings.Stamping.{stamp}
-use Rattle.field.specs.Workings.Labelling.{labelling}
 use Rattle.field.specs.Workings.Counting.{tally}
 use Rattle.field.specs.Workings.Corners.{groupsOf, every, rectangleOf}
 use Rattle.field.specs.Workings.Looking.{clearOf, distancesOf, openOf, assuredOf}
@@ -71,38 +70,43 @@ alone-looks {P} {Q} {s} {t} D E x y = (sound, complete)
         let l : lit s wide high x y < lit t wide high x y = ltb-true _ _ e in
         (lit-drawn wide high Q t E x y (omega arith), λ p. omega (arith, drawn-lit wide high P s D x y p, lit-le t wide high x y))
 
--- Each distance of (x, y) is the mark for none.
-unfoldable pub no-distance-at : List ℕ → ℕ → ℕ → Bool
-no-distance-at s y x =
-    (eqb (clearOf eastward s wide high x y) no-distance && eqb (clearOf southward s wide high x y) no-distance)
-    && (eqb (clearOf westward s wide high x y) no-distance && eqb (clearOf northward s wide high x y) no-distance)
+-- Each distance of (x, y) is n.
+unfoldable pub distance-at : ℕ → List ℕ → ℕ → ℕ → Bool
+distance-at n s y x =
+    (eqb (clearOf eastward s wide high x y) n && eqb (clearOf southward s wide high x y) n)
+    && (eqb (clearOf westward s wide high x y) n && eqb (clearOf northward s wide high x y) n)
 
-pub none-each : (s : List ℕ) (x y : ℕ) → no-distance-at s y x ≡ true → (t : Way) → clearOf t s wide high x y ≡ no-distance
-unfolding no-distance-at
-none-each s x y e t =
+pub each-way : (n : ℕ) (s : List ℕ) (x y : ℕ) → distance-at n s y x ≡ true → (t : Way) → clearOf t s wide high x y ≡ n
+unfolding distance-at
+each-way n s x y e t =
     let f = and-split _ _ e in
     let g = and-split _ _ (f .0) in
     let k = and-split _ _ (f .1) in
     by-way t (eqb-true _ _ (g .0)) (eqb-true _ _ (g .1)) (eqb-true _ _ (k .0)) (eqb-true _ _ (k .1))
   where
     P : Way → Type 0
-    P t = clearOf t s wide high x y ≡ no-distance
+    P t = clearOf t s wide high x y ≡ n
 
     by-way : (t : Way) → P eastward → P southward → P westward → P northward → P t
-    by-way eastward e s w n = e
-    by-way southward e s w n = s
-    by-way westward e s w n = w
-    by-way northward e s w n = n
+    by-way eastward e d f u = e
+    by-way southward e d f u = d
+    by-way westward e d f u = f
+    by-way northward e d f u = u
+
+-- Each of the places is marked on the second sheet alone.
+unfoldable pub eachAlone : List ℕ → List ℕ → List Place → Bool
+eachAlone s t [] = true
+eachAlone s t (p ∷ ps) = alone s t (p .x) (p .y) && eachAlone s t ps
 
 -- The tests.
 unfoldable pub passes : Row → Bool
 passes (labels rocks shut groups opens) =
-    (same (picture rocks shut) (labelling wide high (rockSheet rocks)) && eqb (length rocks) (tally wide high (lit (rockSheet rocks) wide high)))
+    (eachAlone (rockSheet rocks) (closedSheet rocks) shut && eqb (length rocks) (tally wide high (lit (rockSheet rocks) wide high)))
     && ((eqb (length shut) (tally wide high (λ x y. bit (alone (rockSheet rocks) (closedSheet rocks) x y)))
     && eqb groups (groupsOf (closedSheet rocks) wide high))
     && eqb opens (tally wide high (λ x y. bit (openOf (closedSheet rocks) wide high x y))))
 passes (group rocks x₀ x₁ y₀ y₁) = rectangleOf (closedSheet rocks) wide high x₀ x₁ y₀ y₁
-passes (no-distances rocks) = every high (λ y. every wide (no-distance-at (closedSheet rocks) y))
+passes (each-distance rocks n) = every high (λ y. every wide (distance-at n (closedSheet rocks) y))
 passes (distances rocks x y four) = (ltb x wide && ltb y high) && same four (distancesOf (closedSheet rocks) wide high x y)
 passes (assured rocks hx hy x y) = assuredOf (closedSheet rocks) wide high hx hy x y
 passes (not-assured rocks hx hy x y) = not (assuredOf (closedSheet rocks) wide high hx hy x y)

@@ -121,6 +121,15 @@ cleared-added {list} {after} {count} {id} next lent c n =
     new : (k : ℕ) → k < next → slot (take next after) k ≡ slot after k
     new k l = getD-take next after k blank l
 
+-- A marker whose id is not in use stands there no time.
+pub times-fresh : {list : List Marker} {count : ℕ} {m : Marker} → ¬ InUse list count (m .id) → Times m (inUse list count) 0
+times-fresh {list} {count} {m} new = times-absent m (inUse list count) absent
+  where
+    absent : (k : ℕ) → k < length (inUse list count) → ¬ Same (slot (inUse list count) k) m
+    absent k l s =
+        let b : k < count = omega (arith, l, length-take count list) in
+        new (record { place = k; below = b; is = sym (ap (λ (n : Marker). n .id) (getD-take count list k blank b)) ∙ s .id })
+
 -- The marker entered stands in the list once more, and every other one as often as before.
 module _ {list after : List Marker} {count : ℕ} {m : Marker} (room : count < length list) (e : Entered list count m after) where
   pub entered-other : {n : Marker} {t : ℕ} → ¬ Same m n → Times n (inUse list count) t → Times n (inUse after (count + 1)) t
@@ -131,12 +140,7 @@ module _ {list after : List Marker} {count : ℕ} {m : Marker} (room : count < l
 
   -- Its id was not in use: so it stands there once.
   pub entered-once : ¬ InUse list count (m .id) → Times m (inUse after (count + 1)) 1
-  entered-once new = entered-itself (times-absent m (inUse list count) absent)
-    where
-      absent : (k : ℕ) → k < length (inUse list count) → ¬ Same (slot (inUse list count) k) m
-      absent k l s =
-          let b : k < count = omega (arith, l, length-take count list) in
-          new (record { place = k; below = b; is = sym (ap (λ (n : Marker). n .id) (getD-take count list k blank b)) ∙ s .id })
+  entered-once new = entered-itself (times-fresh new)
 
 -- The marker cleared stood in the list once more than it stands there after, and every other one as often as after.
 module _ {list after : List Marker} {count id : ℕ} (next : ℕ) (lent : count ≤ length list) (c : Cleared list count id after)
