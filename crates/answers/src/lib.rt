@@ -1,5 +1,10 @@
 // The questions over a label sheet, of which only the marks count: whatever is not 0 is closed. Here the refusals that need the labels are told, and
 // what the crates below answer as an enum becomes document 01's number and values.
+use field::refusals::END_CLOSED;
+use field::refusals::NO_DRIVE;
+use field::refusals::NOT_ASSURED;
+use field::refusals::SHORT_ROUTE;
+use field::refusals::SUCCESS;
 ghost use mathlib.Core.Path.{_≡_};
 ghost use Rattle.field.specs.Labels.{Stable};
 ghost use Rattle.field.specs.Workings.Sheet.{Marked};
@@ -7,21 +12,6 @@ ghost use Rattle.distances.specs.Promise.{AskedHome};
 ghost use Rattle.hops.specs.Promise.{answered};
 ghost use Rattle.regions.specs.Promise.{Asked, foundNumber};
 ghost use Rattle.answers.specs.Promise.{AssuredAnswer, homeward, no-hop, HopsAnswer, RegionAnswer, DriveAnswer, Ends, no-crossings};
-
-// Document 01's refusal numbers that are told here, and 0 on success.
-const SUCCESS: u8 = 0;
-
-// Assurance, hop, region or drive asked, an end closed.
-const END_CLOSED: u8 = 8;
-
-// Region or drive asked, both ends open, no shortest drive.
-const NO_DRIVE: u8 = 9;
-
-// Route buffer shorter than distance + 1.
-const SHORT_ROUTE: u8 = 10;
-
-// Hop asked, home not assured.
-const NOT_ASSURED: u8 = 11;
 
 // Whether home is assured, or the refusal.
 #[repr(C)]

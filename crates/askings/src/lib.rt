@@ -3,14 +3,12 @@
 use answers::Assurance;
 use answers::Drove;
 use answers::Homeward;
+use field::refusals::SUCCESS;
 ghost use Rattle.askings.specs.Promise.{MayLabel, MayAsk, MayAskTwo, MayMeasure, MayDrive};
 ghost use Rattle.askings.specs.Promise.{LabelRest, DistancesRest, MeasureRest, AssuredRest, HopRest, RegionRest, DriveRest, RouteRest};
 
 // n where no refusal was found before.
 const UNREFUSED: u8 = 0;
-
-// The number on success.
-const SUCCESS: u8 = 0;
 
 // The numbers of rocks' crossings, shut crossings and groups, or the refusal.
 #[repr(C)]

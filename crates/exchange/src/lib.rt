@@ -1,7 +1,9 @@
 // The parts of the two map-file calls that need no list of records: writing from a sheet on which the rocks are stamped, and reading into slices of
 // ids and places.
 use field::Marker;
-use field::SIDE;
+use field::refusals::NO_SLOT;
+use field::refusals::SHARED_CROSSING;
+use field::refusals::SHORT_OUTPUT;
 use reader::Reading;
 use writer::Wrote;
 ghost use mathlib.Core.Path.{_≡_};
@@ -11,13 +13,6 @@ ghost use Rattle.field.specs.Workings.MarkCount.{marks};
 ghost use Rattle.markers.specs.List.{slot};
 ghost use Rattle.markers.specs.Promise.{listOf, Parallel};
 ghost use Rattle.exchange.specs.Promise.{Area, MayWrite, WriteRest, MarkerRoom, ReadsMarkers};
-
-// Document 01's refusal numbers that are found here.
-const NO_SLOT: u8 = 7;
-
-const SHARED_CROSSING: u8 = 16;
-
-const SHORT_OUTPUT: u8 = 17;
 
 // Width, height and number of markers of a map that was read, or the refusal.
 #[repr(C)]
@@ -39,10 +34,7 @@ pub struct WroteMap {
 pub fn area(w: usize, h: usize) -> usize
     ensures { λ r. ⌜ Area w h r ⌝ }
 {
-    if SIDE < w {
-        return 0;
-    }
-    if SIDE < h {
+    if !judging::sized(w, h) {
         return 0;
     }
     h * w

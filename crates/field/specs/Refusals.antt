@@ -1,4 +1,4 @@
--- Document 01's refusal numbers, each by a name. "The lowest number that applies is given", but for reading a file.
+-- Document 01's refusal numbers, each by a name; src/refusals.rt has the same for the code. "The lowest number that applies is given", but for reading a file.
 use Prim.Native.Nat.{ℕ}
 
 -- "(0 on success)"

@@ -2,6 +2,14 @@
 use field::MOST_MARKERS;
 use field::Marker;
 use field::SIDE;
+use field::refusals::BAD_LIST;
+use field::refusals::BAD_PLACE;
+use field::refusals::BAD_SHEET;
+use field::refusals::BAD_SIZE;
+use field::refusals::ID_IN_USE;
+use field::refusals::ID_NOT_IN_USE;
+use field::refusals::NO_SLOT;
+use field::refusals::SUCCESS;
 ghost use mathlib.Core.Path.{_≡_};
 ghost use mathlib.Core.Bool.{true};
 ghost use mathlib.Core.Logic.{_↔_};
@@ -11,25 +19,8 @@ ghost use Rattle.markers.specs.Promise.{marker};
 ghost use Rattle.judging.specs.Rule.{Gives};
 ghost use Rattle.judging.specs.Judging.{Fits, FourFit, asking-judged, list-judged, enter-judged, clear-judged, FoundAt};
 
-// Document 01's refusal numbers that come before anything is written, and 0 for none.
-pub const SUCCESS: u8 = 0;
-
-pub const BAD_SIZE: u8 = 1;
-
-pub const BAD_SHEET: u8 = 2;
-
-pub const BAD_LIST: u8 = 3;
-
-pub const BAD_PLACE: u8 = 4;
-
-pub const ID_IN_USE: u8 = 5;
-
-pub const ID_NOT_IN_USE: u8 = 6;
-
-pub const NO_SLOT: u8 = 7;
-
-// Whether width and height are within the limit.
-fn sized(w: usize, h: usize) -> bool
+// "Width and height: 1 to 64 each."
+pub fn sized(w: usize, h: usize) -> bool
     ensures { λ r. ⌜ ((r ≡ true) ↔ Sides w h) ⌝ }
 {
     if w == 0 {

@@ -9,6 +9,8 @@ use askings::Four;
 use askings::Labelling;
 use calls::Counted;
 use field::Marker;
+use field::refusals::ID_NOT_IN_USE;
+use field::refusals::SUCCESS;
 ghost use Rattle.calls.specs.Rules.{Gives};
 ghost use Rattle.calls.specs.Calls.{EnterCall, ClearCall, LabelCall, DistancesCall, MeasureCall, AssuredCall, HopCall, RegionCall, DriveCall};
 ghost use Rattle.layer.specs.Prepared.{Prepared, found-table};
@@ -19,12 +21,12 @@ fn seek(list: &[Marker], count: usize, w: usize, h: usize, id: u16) -> u8
 {
     let well = records::well_formed(list, count, w, h);
     let n = judging::list_refusal(w, h, well);
-    if n != judging::SUCCESS {
+    if n != SUCCESS {
         return n;
     }
     let k = records::place_of(list, count, id);
     if count <= k {
-        return judging::ID_NOT_IN_USE;
+        return ID_NOT_IN_USE;
     }
     judging::bears(list[k], id)
 }
@@ -44,7 +46,7 @@ pub extern "C" fn bodkin_enter(
 {
     let found = seek(list, count, w, h, id);
     let n = judging::enter_refusal(found, w, h, id, x, y, count, list.len());
-    if n != judging::SUCCESS {
+    if n != SUCCESS {
         return Counted {
             refusal: n,
             count: 0,
@@ -53,7 +55,7 @@ pub extern "C" fn bodkin_enter(
     let m = judging::marker(id, x, y);
     let next = records::enter(list, count, m);
     Counted {
-        refusal: judging::SUCCESS,
+        refusal: SUCCESS,
         count: next,
     }
 }
@@ -71,7 +73,7 @@ pub extern "C" fn bodkin_clear(
 {
     let found = seek(list, count, w, h, id);
     let n = judging::clear_refusal(found);
-    if n != judging::SUCCESS {
+    if n != SUCCESS {
         return Counted {
             refusal: n,
             count: 0,
@@ -79,7 +81,7 @@ pub extern "C" fn bodkin_clear(
     }
     let next = records::clear(list, count, id);
     Counted {
-        refusal: judging::SUCCESS,
+        refusal: SUCCESS,
         count: next,
     }
 }
@@ -102,11 +104,11 @@ fn prepare(
 {
     let well = records::well_formed(list, count, w, h);
     let n = judging::lowest(w, h, labels.len(), others, well, x, y, a, b);
-    if n != judging::SUCCESS {
+    if n != SUCCESS {
         return n;
     }
     records::stamp(list, count, w, h, labels);
-    judging::SUCCESS
+    SUCCESS
 }
 
 // Labels the map. Hands back the numbers of rocks' crossings, shut crossings and groups, or the refusal: 1, 2 or 3.

@@ -2,7 +2,10 @@
 // over the raster twice: first the raster is judged and its rocks are counted, and only when nothing is left to refuse are they entered. So a refusal
 // changes no slot.
 use field::MOST_MARKERS;
-use field::SIDE;
+use field::refusals::BAD_HEADER;
+use field::refusals::BAD_LETTERS;
+use field::refusals::BAD_SIZE;
+use field::refusals::NO_SLOT;
 use header::Head;
 use raster::Judged;
 ghost use mathlib.Core.Path.{_≡_};
@@ -58,25 +61,6 @@ fn first_two(src: &[u8]) -> Letters
     Letters::Neither
 }
 
-// "Width and height: 1 to 64 each."
-fn fits(w: usize, h: usize) -> bool
-    ensures { λ r. ⌜ ((r ≡ true) ↔ Sides w h) ⌝ }
-{
-    if w == 0 {
-        return false;
-    }
-    if h == 0 {
-        return false;
-    }
-    if SIDE < w {
-        return false;
-    }
-    if SIDE < h {
-        return false;
-    }
-    true
-}
-
 // Whether the rocks find a slot each: they pass neither the list lent nor the limit.
 fn has_room(rocks: usize, lent: usize) -> bool
     ensures { λ r. ⌜ ((r ≡ true) ↔ HasRoom rocks lent) ⌝ }
@@ -100,7 +84,7 @@ fn refusal(judged: Judged, lent: usize) -> u8
         return fault;
     }
     if !room {
-        return 7;
+        return NO_SLOT;
     }
     0
 }
@@ -136,10 +120,10 @@ fn read_map(src: &[u8], plain: bool, ids: &mut [u16], xs: &mut [u16], ys: &mut [
 {
     let head = header::header(src, 2);
     let Head::Sides(w, h, at) = head else {
-        return Reading::Refused(13);
+        return Reading::Refused(BAD_HEADER);
     };
-    if !fits(w, h) {
-        return Reading::Refused(1);
+    if !judging::sized(w, h) {
+        return Reading::Refused(BAD_SIZE);
     }
     read_raster(plain, &src[at..], w, h, ids, xs, ys)
 }
@@ -154,6 +138,6 @@ pub fn read(src: &[u8], ids: &mut [u16], xs: &mut [u16], ys: &mut [u16]) -> Read
     match letters {
         Letters::Plain => read_map(src, true, ids, xs, ys),
         Letters::Raw => read_map(src, false, ids, xs, ys),
-        Letters::Neither => Reading::Refused(12),
+        Letters::Neither => Reading::Refused(BAD_LETTERS),
     }
 }

@@ -27,8 +27,8 @@ returns c =
     let s = k .before .before .before .before .before in
     (s .pre .parallel, map-no-header (formatOf (s .args .plain)) _ _ (s .pre .letters) (head-missing _ _ _ (k .header .ensures) (c .enum-told .given .1)))
 
-fits-requires : tie.Need-fits-requires
-fits-requires c κs = search needs
+sized-requires : tie.Need-sized-requires
+sized-requires c κs = search needs
 
 returns-2 : tie.Need-returns-2
 returns-2 c =
@@ -37,7 +37,7 @@ returns-2 c =
     let s = k .before .before .before .before .before in (
       s .pre .parallel,
       map-no-sides (formatOf (s .args .plain)) _ _ (s .pre .letters) (head-found _ _ _ _ _ _ (k .header .ensures) (g .head .given .1) .1)
-          (answered-no (not-true _ (c .if1 .taken)) (c .before .fits2 .ensures .1)),
+          (answered-no (not-true _ (c .if1 .taken)) (c .before .sized .ensures .1)),
     )
 
 sub-read-raster : tie.Need-sub-read-raster
@@ -58,7 +58,7 @@ read-raster-requires c κs =
     let e = c .before .before .before .before in
     let k = e .before .before .before .before .before in
     let s = k .before .before .before .before .before in
-    record { sides = e .before .fits2 .ensures .0 (not-false _ (e .if1 .left)); parallel = s .pre .parallel }
+    record { sides = e .before .sized .ensures .0 (not-false _ (e .if1 .left)); parallel = s .pre .parallel }
 
 same-length : tie.Need-same-length
 same-length c = search needs
@@ -78,7 +78,7 @@ returns-3 c =
     let s = k .before .before .before .before .before in (
       r .read-raster .ensures .0,
       map-reads (formatOf (s .args .plain)) _ _ (s .pre .letters) (head-found _ _ _ _ _ _ (k .header .ensures) (g .head .given .1) .1)
-          (e .before .fits2 .ensures .0 (not-false _ (e .if1 .left)))
+          (e .before .sized .ensures .0 (not-false _ (e .if1 .left)))
           (r .read-raster .result)
           _
           (rw (part-is (s .args .src .now) (g .head .given .0 .1 .1 .0)) at (r .read-raster .ensures .1)),
@@ -92,7 +92,7 @@ read-map-spec =
     enum-known-head
     enum-told
     returns
-    fits-requires
+    sized-requires
     returns-2
     sub-read-raster
     part-read-raster-start
