@@ -4,7 +4,7 @@
  * The eleven calls of the static library, target/staticlib/liblayer.a. Each call answers by the lowest refusal that applies, or succeeds: for every
  * value of every number and every content of every buffer. What C cannot let a callee check is the caller's part: a pointer stands before its length
  * and points to so many elements, aligned for their type; what a call may write overlaps nothing else that is lent to the same call. A pointer is not
- * null, even where its length is 0.
+ * null, even where its length is 0. There is room on the stack: docs/INTEGRATORS.md tells how much each call takes, at most 25,600 bytes.
  *
  * A crossing is (x, y), x rising to the east from 0, y rising to the north from 0. Its number is y * width + x. Sheets and routes go by number.
  */
@@ -19,7 +19,7 @@
 extern "C" {
 #endif
 
-/* The limits: width and height of a map, markers in use, and the mark of a distance that there is none. */
+/* The limits: width and height of a map, markers in use, and the byte that stands for no distance. */
 #define BODKIN_SIDE 64
 #define BODKIN_MARKERS 4096
 #define BODKIN_NO_DISTANCE 255

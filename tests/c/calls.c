@@ -7,12 +7,15 @@
 
 #include <string.h>
 
-enum { SLOTS = 8, SIDE = 8, SHEET = SIDE * SIDE, ROUTE = 16, FILE_BYTES = 15, NOISE = 0xA5 };
+enum { SLOTS = 8, ALL_SLOTS = BODKIN_MARKERS + 2, SIDE = 8, SHEET = SIDE * SIDE, ROUTE = 16, FILE_BYTES = 15, NOISE = 0xA5 };
 
-/* A sheet has one byte more than the map, so that a sheet too long can be lent. */
+/*
+ * A sheet has one byte more than the map, so that a sheet too long can be lent. Of the list SLOTS are lent, and the rest is noise; all of it is lent to
+ * reach the limit on markers.
+ */
 static struct lent {
     uint64_t guard_0;
-    struct bodkin_marker list[SLOTS];
+    struct bodkin_marker list[ALL_SLOTS];
     uint64_t guard_1;
     uint8_t labels[SHEET + 1];
     uint64_t guard_2;
@@ -75,7 +78,7 @@ static bool all_zero(const uint8_t *bytes) {
     return zero;
 }
 
-/* The nine calls over a list, each as a number from what is asked: its refusal. At a refusal the answer's other fields are zeros. */
+/* The ten calls over a list, each as a number from what is asked: its refusal. At a refusal the answer's other fields are zeros. */
 
 static uint8_t zeros(uint8_t refusal, size_t others) {
     if (refusal != 0) expect(others == 0, "a refusal returns its number only");
@@ -169,6 +172,8 @@ static void sizes(const struct call *call) {
 
 static void sheets(const struct call *call) {
     static const size_t bad[] = {0, SHEET - 1, SHEET + 1};
+    static const char *const ways[] = {"east sheet empty, short or long", "south sheet empty, short or long", "west sheet empty, short or long",
+                                       "north sheet empty, short or long"};
     if (!call->sheets) return;
     for (size_t i = 0; i < 3; i++) {
         set();
@@ -176,14 +181,19 @@ static void sheets(const struct call *call) {
         q.count = SIZE_MAX;
         refused(call, BODKIN_BAD_SHEET, "label sheet empty, short or long, list bad too");
         set();
-        q.region = q.four[i] = bad[i];
-        if (call->ask == region || call->ask == drive || call->ask == measure) refused(call, BODKIN_BAD_SHEET, "another sheet empty, short or long");
+        q.region = bad[i];
+        if (call->ask == region || call->ask == drive) refused(call, BODKIN_BAD_SHEET, "region sheet empty, short or long");
+        for (size_t way = 0; call->ask == measure && way < 4; way++) {
+            set();
+            q.four[way] = bad[i];
+            refused(call, BODKIN_BAD_SHEET, ways[way]);
+        }
     }
 }
 
 static void lists(const struct call *call) {
     static const size_t bad[] = {SLOTS + 1, BODKIN_MARKERS + 1, SIZE_MAX};
-    static const struct bodkin_marker wrong[] = {{0, 4, 3}, {1, 4, 3}, {3, 4, 3}, {2, SIDE, 3}, {2, 4, SIDE}, {2, 0xFFFF, 0xFFFF}};
+    static const struct bodkin_marker wrong[] = {{0, 4, 3}, {1, 4, 3}, {3, 4, 3}, {4, 4, 3}, {2, SIDE, 3}, {2, 4, SIDE}, {2, 0xFFFF, 0xFFFF}};
     for (size_t i = 0; i < 3; i++) {
         set();
         q.count = bad[i];
@@ -196,8 +206,32 @@ static void lists(const struct call *call) {
         refused(call, BODKIN_BAD_LIST, "an id 0, equal or falling, or a marker off the map");
     }
     set();
+    now.list[0].id = 0;
+    refused(call, BODKIN_BAD_LIST, "the first id 0, and the ids rising");
+    set();
     q.lent = 0;
     refused(call, BODKIN_BAD_LIST, "a list of length 0");
+}
+
+/* All slots are lent and hold markers on R's crossings by turns, with rising ids that leave 9 free: whatever is refused is so by the limit alone. */
+static void set_many(size_t count) {
+    set();
+    for (size_t i = 3; i < ALL_SLOTS; i++) now.list[i] = (struct bodkin_marker){(uint16_t)(i + 10), now.list[i % 3].x, now.list[i % 3].y};
+    q.lent = ALL_SLOTS;
+    q.count = count;
+}
+
+static void limit(const struct call *call) {
+    char what[96];
+    set_many(BODKIN_MARKERS + 1);
+    refused(call, BODKIN_BAD_LIST, "4,097 markers in a longer list");
+    set_many(BODKIN_MARKERS);
+    if (call->ask == enter) {
+        refused(call, BODKIN_NO_SLOT, "4,096 markers in a longer list");
+        return;
+    }
+    snprintf(what, sizeof what, "%s: 4,096 markers are not too many", call->name);
+    expect(call->ask() == (call->ask == write_map ? BODKIN_SHARED_CROSSING : BODKIN_DONE) && (!call->sheets || labelled()), what);
 }
 
 static void places(const struct call *call) {
@@ -276,6 +310,12 @@ static void list_calls(void) {
     expect(cleared.refusal == 0 && cleared.count == 3 && only(NOTHING), "clearing moves the later ones down and sets the freed slot to zeros");
 }
 
+static void last_slot(void) {
+    set_many(BODKIN_MARKERS - 1);
+    struct bodkin_counted entered = bodkin_enter(now.list, ALL_SLOTS, q.count, SIDE, SIDE, 9, 0, 0);
+    expect(entered.refusal == 0 && entered.count == BODKIN_MARKERS && now.list[3].id == 9, "the 4,096th marker is entered");
+}
+
 static void askings(void) {
     set();
     keep();
@@ -323,11 +363,13 @@ int main(void) {
         sizes(&calls[i]);
         sheets(&calls[i]);
         lists(&calls[i]);
+        limit(&calls[i]);
         places(&calls[i]);
     }
     ends();
     routes();
     list_calls();
+    last_slot();
     askings();
     files();
     return verdict("tests/c/calls");

@@ -92,8 +92,10 @@ static void not_by_open_neighbours_alone(void) {
 
 static void way_home(void) {
     enter_r();
-    expect(bodkin_assured(list, SLOTS, count, SIDE, SIDE, 0, 2, 2, 5, labels, CROSSINGS).assured, "R, home (0,2): assured for (2,5)");
-    expect(!bodkin_assured(list, SLOTS, count, SIDE, SIDE, 0, 2, 3, 5, labels, CROSSINGS).assured, "not for (3,5)");
+    struct bodkin_assurance home = bodkin_assured(list, SLOTS, count, SIDE, SIDE, 0, 2, 2, 5, labels, CROSSINGS);
+    expect(home.refusal == 0 && home.assured, "R, home (0,2): assured for (2,5)");
+    home = bodkin_assured(list, SLOTS, count, SIDE, SIDE, 0, 2, 3, 5, labels, CROSSINGS);
+    expect(home.refusal == 0 && !home.assured, "not for (3,5)");
     struct bodkin_homeward two = bodkin_hop(list, SLOTS, count, SIDE, SIDE, 0, 2, 2, 5, labels, CROSSINGS);
     expect(two.hops == 2 && two.x == 1 && two.y == 5 && two.a == 2 && two.b == 4, "two hops are permitted from (2,5), the east-west one first");
     struct bodkin_homeward there = bodkin_hop(list, SLOTS, count, SIDE, SIDE, 0, 2, 0, 2, labels, CROSSINGS);

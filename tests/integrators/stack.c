@@ -1,5 +1,6 @@
 /*
- * Measures how many bytes of stack each call takes on inputs that work it hard, and compares with what docs/INTEGRATORS.md says.
+ * Measures how many bytes of stack each call takes on inputs that work it hard, and compares with what docs/INTEGRATORS.md holds it to. The page's table
+ * comes on standard input, a call and a number a line.
  *
  * Each call runs on a stack of its own, painted beforehand: the lowest byte that changed tells its depth. What an empty call takes there is the
  * caller's own and is taken off.
@@ -23,6 +24,10 @@ static size_t file_len;
 static uint16_t route[2 * SIDE];
 static uint32_t state;
 static int refusal;
+
+/* The calls of the page's table, and what each is held to. */
+static struct { char call[16]; size_t bytes; } table[32];
+static size_t table_len;
 
 #define LIST list, BODKIN_MARKERS + 1, count, SIDE, SIDE
 #define ENDS 0, 0, SIDE - 1, SIDE - 1
@@ -72,40 +77,79 @@ static void rocks(void) {
         }
 }
 
-/* A map whose header has so many comments, the shortest there are. */
+/* Puts so many bytes at the end of the file. */
+static void append(const void *bytes, size_t n) {
+    memcpy(file + file_len, bytes, n);
+    file_len += n;
+}
+
+/* A P1 map 1 by 1 whose header has so many comments, the shortest there are. */
 static void comments(size_t n) {
-    memcpy(file, "P1 ", 3);
-    for (size_t i = 0; i < n; i++) memcpy(file + 3 + 2 * i, "#\n", 2);
-    memcpy(file + 3 + 2 * n, "1 1 1", 5);
-    file_len = 3 + 2 * n + 5;
+    file_len = 0;
+    append("P1 ", 3);
+    for (size_t i = 0; i < n; i++) append("#\n", 2);
+    append("1 1 1", 5);
+}
+
+/* A P1 or P4 map 64 by 64: every second crossing a rock, or every one. */
+static void whole(char letter, int every) {
+    file_len = 0;
+    append(letter == '1' ? "P1 64 64 " : "P4 64 64 ", 9);
+    for (size_t y = 0; y < SIDE; y++)
+        for (size_t x = 0; x < SIDE; x += letter == '1' ? 1 : 8) {
+            uint8_t digit = every || (x + y) % 2 ? '1' : '0', bits = every ? 0xFF : y % 2 ? 0xAA : 0x55;
+            append(letter == '1' ? &digit : &bits, 1);
+        }
+}
+
+static void read_table(void) {
+    while (table_len < sizeof table / sizeof *table && scanf("%15s %zu", table[table_len].call, &table[table_len].bytes) == 2) table_len++;
+}
+
+/* What the page holds a call to; nothing, where it does not name it. */
+static size_t held_to(const char *call) {
+    for (size_t i = 0; i < table_len; i++)
+        if (strcmp(table[i].call, call) == 0) return table[i].bytes;
+    return 0;
 }
 
 static int failed;
 
-static void compare(const char *name, void (*call)(void), size_t said) {
+static void compare(const char *name, void (*call)(void), const char *with) {
     rocks();
-    size_t bytes = used(call);
-    int good = refusal == 0 && bytes <= said;
-    printf("%s: %-22s %8zu bytes of stack, at most %zu\n", good ? "ok" : "FAILED", name, bytes, said);
+    size_t bytes = used(call), most = held_to(name);
+    int good = refusal == 0 && bytes <= most;
+    printf("%s: %-10s%-22s %8zu bytes of stack, at most %zu\n", good ? "ok" : "FAILED", name, with, bytes, most);
     failed += !good;
 }
 
-int main(void) {
-    compare("enter", enter, 256);
-    compare("clear", clear, 256);
-    compare("label", label, 9 << 10);
-    compare("distances", distances, 9 << 10);
-    compare("measure", measure, 9 << 10);
-    compare("assured", assured, 9 << 10);
-    compare("hop", hop, 9 << 10);
-    compare("region", make_region, 9 << 10);
-    compare("drive", drive, 9 << 10);
-    compare("write", write_map, 5 << 10);
+static void compare_reading(void) {
     for (size_t n = 0; n <= 32000; n = n ? n * 20 : 4) {
-        char name[32];
-        snprintf(name, sizeof name, "read, %zu comments", n);
+        char with[32];
+        snprintf(with, sizeof with, "%zu comments", n);
         comments(n);
-        compare(name, read_map, 25 << 10);
+        compare("read", read_map, with);
     }
+    for (int every = 0; every < 2; every++) {
+        whole('1', every);
+        compare("read", read_map, every ? "P1, 4,096 rocks" : "P1, 2,048 rocks");
+        whole('4', every);
+        compare("read", read_map, every ? "P4, 4,096 rocks" : "P4, 2,048 rocks");
+    }
+}
+
+int main(void) {
+    read_table();
+    compare("enter", enter, "");
+    compare("clear", clear, "");
+    compare("label", label, "");
+    compare("distances", distances, "");
+    compare("measure", measure, "");
+    compare("assured", assured, "");
+    compare("hop", hop, "");
+    compare("region", make_region, "");
+    compare("drive", drive, "");
+    compare("write", write_map, "");
+    compare_reading();
     return failed != 0;
 }

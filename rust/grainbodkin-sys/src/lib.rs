@@ -1,7 +1,8 @@
 //! The eleven calls of the proved static library, as `include/grainbodkin.h` declares them. A slice goes as pointer and length.
 //!
-//! A pointer points to as many elements as its length says and is not null; what a call may write overlaps nothing else that is lent to the same call.
-//! For every other value of every parameter a call answers, by its refusal or its success. The crate `grainbodkin` has the same calls without `unsafe`.
+//! A pointer is not null, even where its length is 0; it is aligned for its type and points to as many elements as its length says; what a call may write
+//! overlaps nothing else that is lent to the same call; and there is room on the stack, at most 25,600 bytes. For every other value of every parameter a
+//! call answers, by its refusal or its success. The crate `grainbodkin` has the same calls without `unsafe`.
 #![no_std]
 
 /// A rock marker: an id, 1 to 65,535, and a crossing.

@@ -1,10 +1,14 @@
 //! The eleven calls of the static library, lent slices in place of pointers and lengths. All of the crate's `unsafe` is here.
 //!
-//! The library asks four things of its caller; for all else it answers or refuses. They hold for every slice and every `&mut`:
+//! The library asks five things of its caller; for all else it answers or refuses. Four hold for every slice and every `&mut`:
 //! - a pointer is not null, even where its length is 0: a slice's pointer never is;
 //! - it is aligned and points to so many elements: pointer and length come from one slice, which is lent until the call ends;
 //! - what a call may write overlaps nothing else lent to it: it is lent by `&mut`, and the rest by other references;
 //! - each element is a value of its type: every `u8`, `u16`, `u32` and `Marker` is one, in and out.
+//!
+//! The fifth no type can hold: there is room on the stack, at most 25,600 bytes below the caller (docs/INTEGRATORS.md has each
+//! call's). The library takes a large frame page by page and touches each, so that a thread without the room meets its guard page,
+//! and the process ends before other memory is written.
 //!
 //! The library keeps no pointer past a call and has no memory of its own, so calls from several threads do not meet.
 

@@ -28,8 +28,14 @@
 //!
 //! [`Markers`] owns its list, and its askings take memory for their sheets: they hand back [`Labels`], [`Distances`],
 //! [`Region`] and [`Drive`]. [`MarkersRef`] and [`MarkersMut`] borrow the caller's list, sheets and route, and take every value
-//! that there is. Both ask the same library, and neither tests anything before it: a call answers, or it gives the lowest
-//! [`Refusal`] that applies.
+//! that there is. Both ask the same library: a call answers, or it gives the lowest [`Refusal`] that applies. The borrowing form
+//! tests nothing before it. The owning form is made so that its list, map and sheets fit: [`Map::new`] refuses a bad size, and
+//! [`Markers::new`] takes no more room than [`MARKERS`] slots.
+//!
+//! # Stack
+//!
+//! A call takes up to 25,600 bytes of stack, reading a file the most. No compiler checks that a thread has so much left; one that
+//! has not ends the process, as any overflow of the stack does.
 
 #![deny(missing_docs, unsafe_code, unsafe_op_in_unsafe_fn)]
 

@@ -160,7 +160,7 @@ fn a_place_off_the_map_is_refused_4() {
     }
 }
 
-/// A marker and places that are on a flat map, and off the tall one of the same size.
+/// A marker that is on a flat map, and off the tall one of the same size. The places asked for are on the map each time.
 #[test]
 fn a_flat_map_is_not_a_tall_one() {
     let slots = slots(&[(8, 1)]);
@@ -227,7 +227,8 @@ fn every_number_is_reached() {
     assert_eq!(reached, Refusal::ALL);
 }
 
-/// Every call answers or refuses, whatever the numbers are. Sheets of 64 bytes and R's rocks fit an empty list's askings alone.
+/// Whatever the numbers are, every asking answers or refuses, and so does writing. An asking can succeed only where the map has as
+/// many crossings as the sheets have bytes, which is 1 by 64 and 64 by 1, and the count is 0: R's rocks are off those maps.
 #[test]
 fn hostile_numbers_are_answered() {
     let numbers = [0, 1, 3, 64, 65, 1 << 32, usize::MAX];

@@ -1,4 +1,4 @@
-//! The errors that look reasonable: each is made here by hand, and the independent program does not make it.
+//! The errors that look reasonable: the independent program makes none of them. One of them, the single pass, is made here by hand beside it.
 use crate::common::*;
 use independent::drives::{drive, region_of};
 use independent::files::{read, write};
