@@ -6,7 +6,7 @@
 --     Entering, Clearing     there is one list after: entered-some, entered-one, cleared-some, cleared-one; Making has what both make it with
 --     Times                  every other marker stands there as often as before: entered-other, entered-itself, cleared-other, cleared-itself
 --     Rocks                  which crossings are rocks after: rock-enter, rock-clear, rock-clear-other
---     Slices, Promises       the same for three parallel slices: slots-enter, slots-clear, enters-one, clears-one, stamped-one
+--     Slices, Promises       the list that three parallel slices make, and that stamping it has one outcome: stamped-one
 pub mod Rising
 pub mod Moves
 pub mod Formed

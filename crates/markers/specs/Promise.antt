@@ -1,13 +1,13 @@
--- What the code over parallel slices of ids and places promises. The k-th marker is made of the k-th of each slice.
+-- Markers lent as parallel slices of ids and places, the k-th marker made of the k-th of each, and what stamping them promises.
 use mathlib.Core.Path.{_≡_}
 use mathlib.Core.List.{List, [], _∷_}
 use Prim.Native.Nat.{ℕ, _+_, _*_, _<_, _≤_}
 use lib.ListN.{length, getD}
 use Rattle.field.specs.declared.Marker.{Marker}
-use Rattle.field.specs.Map.{On, Sides, most-markers}
+use Rattle.field.specs.Map.{On, Sides}
 use Rattle.field.specs.Labels.{Rock, RockOn}
 use Rattle.field.specs.Workings.Sheet.{Draws}
-use Rattle.markers.specs.List.{slot, WellFormed, InUse, Entered, Cleared, inUse}
+use Rattle.markers.specs.List.{slot, inUse}
 
 -- A marker of its parts.
 abbrev pub marker : ℕ → ℕ → ℕ → Marker
@@ -30,30 +30,10 @@ pub record Rising (list : List Marker) (count : ℕ) : Type 0 where
   pub lent : count ≤ length list
   pub rising : (k : ℕ) → k + 1 < count → slot list k .id < slot list (k + 1) .id
 
--- What entering asks: rising ids, an id that is not in use, and a slot.
-pub record MayEnter (ids xs ys : List ℕ) (count id : ℕ) : Type 0 where
-  pub parallel : Parallel ids xs ys
-  pub rising : Rising (listOf ids xs ys) count
-  pub new : ¬ InUse (listOf ids xs ys) count id
-  pub room : count < length ids
-
--- What clearing asks: rising ids, and an id that is in use.
-pub record MayClear (ids xs ys : List ℕ) (count id : ℕ) : Type 0 where
-  pub parallel : Parallel ids xs ys
-  pub rising : Rising (listOf ids xs ys) count
-  pub used : InUse (listOf ids xs ys) count id
-
--- What entering makes of the three slices, and the new count.
-pub record Enters (ids xs ys : List ℕ) (count : ℕ) (m : Marker) (ids′ xs′ ys′ : List ℕ) (r : ℕ) : Type 0 where
-  pub parallel : Parallel ids′ xs′ ys′
-  pub list : Entered (listOf ids xs ys) count m (listOf ids′ xs′ ys′)
-  pub counted : r ≡ count + 1
-
--- What clearing makes of them.
-pub record Clears (ids xs ys : List ℕ) (count id : ℕ) (ids′ xs′ ys′ : List ℕ) (r : ℕ) : Type 0 where
-  pub parallel : Parallel ids′ xs′ ys′
-  pub list : Cleared (listOf ids xs ys) count id (listOf ids′ xs′ ys′)
-  pub counted : r + 1 ≡ count
+-- Every byte is zero.
+pub record Wiped (s t : List ℕ) : Type 0 where
+  pub size : length t ≡ length s
+  pub zeros : (i : ℕ) → getD t i 0 ≡ 0
 
 -- What stamping asks: markers in use within the slices and on the map, and a sheet of the map's size.
 pub record MayStamp (w h : ℕ) (xs ys : List ℕ) (count : ℕ) (sheet : List ℕ) : Type 0 where

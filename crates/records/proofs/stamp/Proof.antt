@@ -42,7 +42,7 @@ use Rattle.field.specs.Workings.Sheet.{number-lt}
 use Rattle.field.proofs.Marker as T
 use Rattle.field.proofs.Marker.Laws as T′
 use Rattle.markers.specs.List.{slot}
-use Rattle.markers.specs.Slots.{Wiped}
+use Rattle.markers.specs.Promise.{Wiped}
 use Rattle.markers.specs.Laws.Stamping.{Stamping, stamping-start, stamping-more}
 use Rattle.markers.proofs.wipe as wipe
 use Rattle.markers.proofs.wipe.Symbol as wipe-def
