@@ -43,10 +43,10 @@ fn an_end_closed(labels: &[u8], w: usize, h: usize, x: usize, y: usize, a: usize
     requires { ⌜ AskedHome w h (now labels) x y a b ⌝ }
     ensures { λ r. ⌜ Ends w h (Marked (now (labels .entry)) w h) x y a b r ⌝ }
 {
-    if distances::mark(labels, w, h, x, y) != 0 {
+    if sheets::mark(labels, w, h, x, y) != 0 {
         return true;
     }
-    if distances::mark(labels, w, h, a, b) != 0 {
+    if sheets::mark(labels, w, h, a, b) != 0 {
         return true;
     }
     false

@@ -8,7 +8,7 @@ use Rattle.field.specs.Labels.{Stable, closed-stable, LabelSheet}
 use Rattle.field.specs.Workings.Sheet.{Marked}
 use Rattle.field.specs.Workings.Labelling.{label-sheet-draws}
 use Rattle.field.specs.Workings.SameLaws.{Alike, alike-back, open-same, assured-same, answers-same, has-drive-same, region-sheet-same, driven-same}
-use Rattle.distances.specs.Promise.{Fits}
+use Rattle.sheets.specs.Promise.{Fits}
 use Rattle.answers.specs.declared.Assurance.{Assurance}
 use Rattle.answers.specs.declared.Homeward.{Homeward}
 use Rattle.answers.specs.declared.Drove.{Drove}

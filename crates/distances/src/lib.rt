@@ -1,25 +1,18 @@
 // Clear distances of one crossing, and whether home is assured, over a sheet that marks the closed crossings.
 mod look; // look.rt: the distance of one crossing
 
+use sheets::mark;
 ghost use mathlib.Core.Path.{_≡_};
 ghost use mathlib.Core.Bool.{true};
 ghost use mathlib.Core.Logic.{_↔_};
-ghost use Rattle.field.specs.Map.{at};
 ghost use Rattle.field.specs.Distances.{Distances, Assured};
 ghost use Rattle.field.specs.Workings.Sheet.{Marked};
 ghost use Rattle.field.specs.Workings.Looking.{enoughOf, axisOf};
-ghost use Rattle.distances.specs.Promise.{Asked, AskedHome};
+ghost use Rattle.distances.specs.Promise.{AskedHome};
+ghost use Rattle.sheets.specs.Promise.{Asked};
 
 // What stands for a distance where there is none.
 pub const NONE: u8 = 255;
-
-// What the sheet has at (x, y): 0 where the crossing is open.
-pub fn mark(s: &[u8], w: usize, h: usize, x: usize, y: usize) -> u8
-    requires { ⌜ Asked w h (now s) x y ⌝ }
-    ensures { λ r. ⌜ r ≡ at (now (s .entry)) w x y ⌝ }
-{
-    s[y * w + x]
-}
 
 // The four distances of (x, y), east, south, west, north.
 pub fn distances(s: &[u8], w: usize, h: usize, x: usize, y: usize) -> [u8; 4]

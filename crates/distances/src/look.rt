@@ -1,10 +1,10 @@
 // The distance of one crossing, a function for each way: the hops to the first mark along its row or column, or none. The crossing itself is
 // looked at first, so that a closed crossing has 0.
 use crate::NONE;
-use crate::mark;
+use sheets::mark;
 ghost use Rattle.field.specs.Distances.{Clear, eastward, southward, westward, northward};
 ghost use Rattle.field.specs.Workings.Sheet.{Marked};
-ghost use Rattle.distances.specs.Promise.{Asked};
+ghost use Rattle.sheets.specs.Promise.{Asked};
 
 // To the east.
 pub(crate) fn east(s: &[u8], w: usize, h: usize, x: usize, y: usize) -> u8

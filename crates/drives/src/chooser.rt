@@ -4,9 +4,9 @@ ghost use Rattle.field.specs.Map.{gap};
 ghost use Rattle.drives.specs.Hops.{Choosable, Chose, Steered, Written};
 use super::draw;
 use regions::looks::east_west;
-use regions::looks::hop;
 use regions::looks::north_south;
-use regions::looks::number_of;
+use sheets::hop;
+use sheets::number_of;
 
 // The lowest state whose top bit is 1.
 const TOP_BIT: u32 = 2147483648;

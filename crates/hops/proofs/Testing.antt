@@ -13,7 +13,7 @@ use Rattle.field.specs.Workings.Sheet.{lit}
 use Rattle.field.specs.Workings.Marks.{marked-lit, unmarked-lit}
 use Rattle.field.specs.Workings.Looking.{openOf, hopTo, eastWestOf, northSouthOf}
 use Rattle.field.specs.Workings.AxisLaws.{hop-below}
-use Rattle.distances.specs.Promise.{Asked}
+use Rattle.sheets.specs.Promise.{Asked}
 use Rattle.hops.specs.Asking.{AskedRow, AskedColumn}
 
 -- On the map the test for an open crossing is that it has no mark.

@@ -2,7 +2,7 @@
 use mathlib.Core.List.{List}
 use Prim.Native.Nat.{ℕ, _<_}
 use Rattle.field.specs.Map.{On}
-use Rattle.distances.specs.Promise.{Fits}
+use Rattle.sheets.specs.Promise.{Fits}
 
 -- A sheet, a place of its map, and home's column.
 pub record AskedRow (w h : ℕ) (s : List ℕ) (hx x y : ℕ) : Type 0 where

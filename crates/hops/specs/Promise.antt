@@ -5,7 +5,7 @@ use Rattle.field.specs.Labels.{Stable}
 use Rattle.field.specs.Distances.{Assured}
 use Rattle.field.specs.Hops.{HopAnswer, there, one, two}
 use Rattle.field.specs.Workings.Sheet.{Marked}
-use Rattle.distances.specs.Promise.{Fits}
+use Rattle.sheets.specs.Promise.{Fits}
 use Rattle.hops.specs.declared.Answer.{Answer}
 use Rattle.hops.specs.declared.Answer.the-variants.{There, One, Two}
 

@@ -10,7 +10,7 @@ use Rattle.field.specs.Distances.{Assured}
 use Rattle.field.specs.Hops.{Permitted, There, HopAnswer, there, one, two, Answers, at-home, just, both}
 use Rattle.field.specs.Workings.Sheet.{Marked, Draws}
 use Rattle.field.specs.Workings.HopLaws.{ByRow, ByColumn, permitted-which, permitted-other, permitted-away}
-use Rattle.distances.specs.Promise.{Fits}
+use Rattle.sheets.specs.Promise.{Fits}
 use Rattle.distances.specs.Drawn.{assured-drawn}
 use Rattle.hops.specs.Promise.{MayHop}
 

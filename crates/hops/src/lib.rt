@@ -1,10 +1,9 @@
 // Single hops homeward, over a sheet that marks the closed crossings.
-use distances::mark;
+use sheets::mark;
 ghost use mathlib.Core.Path.{_≡_};
-ghost use mathlib.Core.Logic.{_≢_};
 ghost use Rattle.field.specs.Hops.{Answers};
 ghost use Rattle.field.specs.Workings.Sheet.{Marked};
-ghost use Rattle.field.specs.Workings.Looking.{hopTo, eastWestOf, northSouthOf};
+ghost use Rattle.field.specs.Workings.Looking.{eastWestOf, northSouthOf};
 ghost use Rattle.hops.specs.Promise.{answered, MayHop};
 ghost use Rattle.hops.specs.Asking.{AskedRow, AskedColumn};
 
@@ -15,17 +14,6 @@ pub enum Answer {
     Two(usize, usize, usize, usize),
 }
 
-// The place next to p on one axis, one hop nearer d.
-fn toward(p: usize, d: usize) -> usize
-    requires { ⌜ p ≢ d ⌝ }
-    ensures { λ r. ⌜ r ≡ hopTo p d ⌝ }
-{
-    if p < d {
-        return p + 1;
-    }
-    p - 1
-}
-
 // Whether the hop along the row is permitted: home is in another column, and the hop's end is open.
 fn east_west(s: &[u8], w: usize, h: usize, hx: usize, x: usize, y: usize) -> bool
     requires { ⌜ AskedRow w h (now s) hx x y ⌝ }
@@ -34,7 +22,7 @@ fn east_west(s: &[u8], w: usize, h: usize, hx: usize, x: usize, y: usize) -> boo
     if x == hx {
         return false;
     }
-    mark(s, w, h, toward(x, hx), y) == 0
+    mark(s, w, h, sheets::hop(x, hx), y) == 0
 }
 
 // Whether the hop along the column is permitted: home is in another row, and the hop's end is open.
@@ -45,7 +33,7 @@ fn north_south(s: &[u8], w: usize, h: usize, hy: usize, x: usize, y: usize) -> b
     if y == hy {
         return false;
     }
-    mark(s, w, h, x, toward(y, hy)) == 0
+    mark(s, w, h, x, sheets::hop(y, hy)) == 0
 }
 
 // The permitted hops from (x, y) towards home (hx, hy), for which home is assured.
@@ -56,14 +44,14 @@ pub fn hop(s: &[u8], w: usize, h: usize, hx: usize, hy: usize, x: usize, y: usiz
     let row = east_west(s, w, h, hx, x, y);
     let column = north_south(s, w, h, hy, x, y);
     if row {
-        let a = toward(x, hx);
+        let a = sheets::hop(x, hx);
         if column {
-            return Answer::Two(a, y, x, toward(y, hy));
+            return Answer::Two(a, y, x, sheets::hop(y, hy));
         }
         return Answer::One(a, y);
     }
     if column {
-        return Answer::One(x, toward(y, hy));
+        return Answer::One(x, sheets::hop(y, hy));
     }
     Answer::There
 }

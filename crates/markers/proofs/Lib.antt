@@ -1,3 +1,2 @@
--- What the loops of the code keep true, as laws of lists: one module for each loop.
-mod Wiping
+-- What the loop of `stamp` keeps true, as laws of lists.
 mod Stamping

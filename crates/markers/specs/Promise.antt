@@ -30,11 +30,6 @@ pub record Rising (list : List Marker) (count : ℕ) : Type 0 where
   pub lent : count ≤ length list
   pub rising : (k : ℕ) → k + 1 < count → slot list k .id < slot list (k + 1) .id
 
--- Every byte is zero.
-pub record Wiped (s t : List ℕ) : Type 0 where
-  pub size : length t ≡ length s
-  pub zeros : (i : ℕ) → getD t i 0 ≡ 0
-
 -- What stamping asks: markers in use within the slices and on the map, and a sheet of the map's size.
 pub record MayStamp (w h : ℕ) (xs ys : List ℕ) (count : ℕ) (sheet : List ℕ) : Type 0 where
   pub sides : Sides w h

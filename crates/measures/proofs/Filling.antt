@@ -13,7 +13,7 @@ use Rattle.field.specs.Distances.{Way, Clear, DistanceSheet}
 use Rattle.field.specs.Workings.Sheet.{Marked, number-lt}
 use Rattle.field.specs.Workings.GridLaws.{number-one}
 use Rattle.field.specs.Geometry.Links.{moved}
-use Rattle.distances.specs.Promise.{Asked}
+use Rattle.sheets.specs.Promise.{Asked}
 use Rattle.measures.specs.Running.{Ready, ReadyAfter, Neighbour, Put, Gains, Row}
 use Rattle.measures.proofs.Ahead.{Ahead, ahead-neighbour, onward-clear}
 

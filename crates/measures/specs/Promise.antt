@@ -5,7 +5,7 @@ use Prim.Native.Nat.{ℕ, _*_}
 use lib.ListN.{length}
 use Rattle.field.specs.Distances.{DistanceSheet, eastward, southward, westward, northward}
 use Rattle.field.specs.Workings.Sheet.{Marked}
-use Rattle.distances.specs.Promise.{Fits}
+use Rattle.sheets.specs.Promise.{Fits}
 
 -- A sheet of the closed crossings and four sheets of the map's size.
 pub record Lent (w h : ℕ) (s e d f n : List ℕ) : Type 0 where

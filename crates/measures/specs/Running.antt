@@ -7,7 +7,7 @@ use lib.ListN.{length, set}
 use Rattle.field.specs.Map.{On, number, at, no-distance}
 use Rattle.field.specs.Distances.{Way, Along, Clear}
 use Rattle.field.specs.Workings.Sheet.{Marked}
-use Rattle.distances.specs.Promise.{Fits}
+use Rattle.sheets.specs.Promise.{Fits}
 
 -- A crossing's number r, from what the sheet has there, v, and from its neighbour's number that way, which is the mark for none at the edge:
 -- 0 where the crossing is closed, none where the neighbour has none, and else one more.

@@ -123,7 +123,7 @@ pub fn stamp(list: &[Marker], count: usize, w: usize, h: usize, sheet: &mut [u8]
     requires { ⌜ MayStamp w h (now list) count (now sheet) ⌝ }
     ensures { λ _. ⌜ StampedWith w h (now (list .entry)) count (now (sheet .exit)) ⌝ }
 {
-    markers::wipe(sheet);
+    sheets::wipe(sheet);
     let mut k: usize = 0;
     while k < count {
         mark(sheet, list[k], w);

@@ -19,12 +19,6 @@ use Rattle.field.specs.Workings.Reaching.{eastWestIn, northSouthIn}
 use Rattle.regions.specs.Passes.{Looked, backed}
 use Rattle.regions.proofs.WayLaws.{hop-lt}
 
--- Sixteen bits hold the numbers of a map within the limits.
-pub number-small : {w h x y : ℕ} → Sides w h → On w h x y → number w x y < 65536
-unfolding side
-number-small {w} {h} {x} {y} s o =
-    omega (arith, o .in-x, o .in-y, s .most-w, s .most-h, mul-le-mul-right {m = y} {n = side} w (omega (arith, o .in-y, s .most-h)))
-
 -- A mark on the map, as a test.
 lit-on : (g : List ℕ) (w h x y : ℕ) → On w h x y → ltb 0 (lit g w h x y) ≡ ltb 0 (at g w x y)
 unfolding lit

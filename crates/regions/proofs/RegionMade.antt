@@ -13,7 +13,8 @@ use Rattle.field.specs.Workings.Sheet.{Marked}
 use Rattle.field.specs.Workings.GridLaws.{Toward, gap-turned, gap-detour, near-turned, toward-near, toward-nearer}
 use Rattle.field.specs.Workings.DriveLaws.{hop, has-drive-open, has-drive-turned, has-drive-step}
 use Rattle.field.specs.Workings.RegionLaws.{region-split, has-drive-in}
-use Rattle.regions.specs.Passes.{Spanned, Pass, free, Wiped}
+use Rattle.regions.specs.Passes.{Spanned, Pass, free}
+use Rattle.sheets.specs.Promise.{Wiped}
 use Rattle.regions.proofs.WayLaws.{way-turned}
 use Rattle.regions.proofs.LookLaws.{zero-bit, other-bit}
 use Rattle.regions.proofs.PassMeaning.{spanned-toward, pass-means}
@@ -84,7 +85,7 @@ module _ (w h : ℕ) (s : List ℕ) (sx sy dx dy : ℕ) where
 
     outside : (x y : ℕ) → On w h x y → ¬ Spanned sx sy dx dy x y → InOut (InRegion w h C sx sy dx dy x y) (at g₂ w x y)
     outside x y o n =
-        is-out (q .other x y o (λ k. n (spanned-turned k)) ∙ p .other x y o n ∙ z .blank (number w x y))
+        is-out (q .other x y o (λ k. n (spanned-turned k)) ∙ p .other x y o n ∙ z .zeros (number w x y))
         (λ r. n (direct-spanned sx sy dx dy x y (region-split w h C sx sy dx dy .0 r .direct)))
 
     pub region-made : length g ≡ h * w → RegionSheet w h C sx sy dx dy g₂

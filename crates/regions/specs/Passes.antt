@@ -10,16 +10,6 @@ use Rattle.field.specs.Map.{Sides, On, number, at, gap}
 use Rattle.field.specs.Workings.Sheet.{bit}
 use Rattle.field.specs.Workings.Reaching.{eastWestIn, northSouthIn}
 
--- A crossing of a map within the limits, and its number: it is below the map's size, and sixteen bits hold it.
-pub record Placed (w h x y : ℕ) : Type 0 where
-  pub sides : Sides w h
-  pub on : On w h x y
-
-pub record Numbered (w h x y n : ℕ) : Type 0 where
-  pub is : n ≡ number w x y
-  pub below : n < h * w
-  pub small : n < 65536
-
 -- A map within the limits, a sheet of it, and two places: the end that a pass starts from, and one more.
 pub record Looked (w h : ℕ) (g : List ℕ) (ex ey x y : ℕ) : Type 0 where
   pub sides : Sides w h
@@ -53,8 +43,3 @@ pub record Pass (w h ex ey : ℕ) (P : ℕ → ℕ → Type 0) (v : ℕ → ℕ 
 -- 1 where the sheet of the closed crossings has no mark, and else 0.
 abbrev pub free : List ℕ → ℕ → ℕ → ℕ → ℕ
 free s w x y = bit (eqb (at s w x y) 0)
-
--- A sheet that is all 0.
-pub record Wiped (g g′ : List ℕ) : Type 0 where
-  pub size : length g′ ≡ length g
-  pub blank : (i : ℕ) → getD g′ i 0 ≡ 0

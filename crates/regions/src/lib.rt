@@ -27,15 +27,15 @@ pub fn region(
     requires { ⌜ Asked w h (now s) (now g) sx sy dx dy ⌝ }
     ensures { λ r. ⌜ Regioned w h (now (s .entry)) sx sy dx dy (now (g .entry)) (now (g .exit)) r ⌝ }
 {
-    let i = looks::number_of(w, h, sx, sy);
+    let i = sheets::number_of(w, h, sx, sy);
     if s[i] != 0 {
         return Found::EndClosed;
     }
-    let j = looks::number_of(w, h, dx, dy);
+    let j = sheets::number_of(w, h, dx, dy);
     if s[j] != 0 {
         return Found::EndClosed;
     }
-    passes::wipe(g);
+    sheets::wipe(g);
     passes::spread(s, w, h, sx, sy, dx, dy, g);
     passes::sift(w, h, dx, dy, sx, sy, g);
     if g[i] == 0 {

@@ -1,27 +1,9 @@
 // Looks at a sheet of marks, one hop from a crossing towards another.
+use sheets::hop;
+use sheets::number_of;
 ghost use mathlib.Core.Path.{_≡_};
-ghost use Rattle.field.specs.Workings.Looking.{hopTo};
 ghost use Rattle.field.specs.Workings.Reaching.{eastWestIn, northSouthIn};
-ghost use Rattle.regions.specs.Passes.{Placed, Numbered, Looked, backed};
-
-// The number of (x, y).
-pub fn number_of(w: usize, h: usize, x: usize, y: usize) -> usize
-    requires { ⌜ Placed w h x y ⌝ }
-    ensures { λ r. ⌜ Numbered w h x y r ⌝ }
-{
-    y * w + x
-}
-
-// One hop from p towards d along an axis.
-pub fn hop(p: usize, d: usize) -> usize
-    requires { ⌜ (p ≡ d → ⊥) ⌝ }
-    ensures { λ r. ⌜ r ≡ hopTo p d ⌝ }
-{
-    if p < d {
-        return p + 1;
-    }
-    p - 1
-}
+ghost use Rattle.regions.specs.Passes.{Looked, backed};
 
 // Whether the sheet has a mark one hop from (x, y) along the row, towards column ex.
 pub fn east_west(g: &[u8], w: usize, h: usize, ex: usize, ey: usize, x: usize, y: usize) -> bool

@@ -5,21 +5,10 @@ ghost use mathlib.Core.Bool.{cond};
 ghost use lib.ListN.{set};
 ghost use Rattle.field.specs.Map.{number, at};
 ghost use Rattle.regions.specs.Promise.{Asked};
-ghost use Rattle.regions.specs.Passes.{Looked, InRow, Spanned, backed, Pass, free, Wiped};
+ghost use Rattle.regions.specs.Passes.{Looked, InRow, Spanned, backed, Pass, free};
 use super::looks::has_back;
-use super::looks::hop;
-use super::looks::number_of;
-
-// Sets every byte to 0.
-pub fn wipe(g: &mut [u8])
-    ensures { λ _. ⌜ Wiped (now (g .entry)) (now (g .exit)) ⌝ }
-{
-    let mut i = 0;
-    while i < g.len() {
-        g[i] = 0;
-        i += 1;
-    }
-}
+use sheets::hop;
+use sheets::number_of;
 
 // Sets (x, y) to v where it is (ex, ey) or has a mark one hop nearer it, and else to 0.
 fn settle(w: usize, h: usize, ex: usize, ey: usize, x: usize, y: usize, v: u8, g: &mut [u8])

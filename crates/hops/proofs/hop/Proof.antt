@@ -12,13 +12,13 @@ east-west-requires c κs = search needs
 north-south-requires : tie.Need-north-south-requires
 north-south-requires c κs = search needs
 
-toward-requires : tie.Need-toward-requires
-toward-requires c κs =
+hop-requires : tie.Need-hop-requires
+hop-requires c κs =
     let tests = c .before in
     row-elsewhere (tests .before .before .before .pre) (tests .before .east-west .ensures) (c .if1 .taken)
 
-toward-requires-2 : tie.Need-toward-requires-2
-toward-requires-2 c κs =
+hop-requires-2 : tie.Need-hop-requires-2
+hop-requires-2 c κs =
     let tests = c .before .before .before in
     column-elsewhere (tests .before .before .before .pre) (tests .north-south .ensures) (c .if2 .taken)
 
@@ -26,16 +26,16 @@ returns : tie.Need-returns
 returns c =
     let tests = c .before .before .before .before in
     answer (tests .before .before .before .pre) true true (tests .before .east-west .ensures) (c .before .before .before .if1 .taken)
-    (tests .north-south .ensures) (c .before .if2 .taken) (cc (c .toward2 .ensures, c .before .before .toward .ensures))
+    (tests .north-south .ensures) (c .before .if2 .taken) (cc (c .hop2 .ensures, c .before .before .hop .ensures))
 
 returns-2 : tie.Need-returns-2
 returns-2 c =
     let tests = c .before .before .before in
     answer (tests .before .before .before .pre) true false (tests .before .east-west .ensures) (c .before .before .if1 .taken)
-    (tests .north-south .ensures) (c .if2 .left) (cc (c .before .toward .ensures))
+    (tests .north-south .ensures) (c .if2 .left) (cc (c .before .hop .ensures))
 
-toward-requires-3 : tie.Need-toward-requires-3
-toward-requires-3 c κs =
+hop-requires-3 : tie.Need-hop-requires-3
+hop-requires-3 c κs =
     let tests = c .before .before in
     column-elsewhere (tests .before .before .before .pre) (tests .north-south .ensures) (c .if3 .taken)
 
@@ -43,7 +43,7 @@ returns-3 : tie.Need-returns-3
 returns-3 c =
     let tests = c .before .before .before in
     answer (tests .before .before .before .pre) false true (tests .before .east-west .ensures) (c .before .before .if1 .left)
-    (tests .north-south .ensures) (c .before .if3 .taken) (cc (c .toward3 .ensures))
+    (tests .north-south .ensures) (c .before .if3 .taken) (cc (c .hop3 .ensures))
 
 returns-4 : tie.Need-returns-4
 returns-4 c =
@@ -57,10 +57,10 @@ hop-spec =
     (tie.spec
     east-west-requires
     north-south-requires
-    toward-requires
-    toward-requires-2
+    hop-requires
+    hop-requires-2
     returns
     returns-2
-    toward-requires-3
+    hop-requires-3
     returns-3
     returns-4)

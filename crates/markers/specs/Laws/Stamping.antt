@@ -10,7 +10,7 @@ use lib.ListN.{length, getD, set, length-set}
 use lib.Seq.{getD-set-same, getD-set-other}
 use Rattle.field.specs.Map.{On, number, at}
 use Rattle.field.specs.Workings.Sheet.{number-lt}
-use Rattle.markers.specs.Promise.{Wiped}
+use Rattle.sheets.specs.Promise.{Wiped}
 
 -- Two crossings of the map with one number are one crossing.
 row-one : (w x y a b : ℕ) → x < w → y * w + x ≡ b * w + a → b ≤ y

@@ -42,12 +42,12 @@ use Rattle.field.specs.Workings.Sheet.{number-lt}
 use Rattle.field.proofs.Marker as T
 use Rattle.field.proofs.Marker.Laws as T′
 use Rattle.markers.specs.List.{slot}
-use Rattle.markers.specs.Promise.{Wiped}
+use Rattle.sheets.specs.Promise.{Wiped}
 use Rattle.markers.specs.Laws.Stamping.{Stamping, stamping-start, stamping-more}
-use Rattle.markers.proofs.wipe as wipe
-use Rattle.markers.proofs.wipe.Symbol as wipe-def
-use Rattle.markers.proofs.wipe.Symbol.{name as #wipe}
-use Rattle.markers.proofs.wipe.Met as wipe-thm
+use Rattle.sheets.proofs.wipe as wipe
+use Rattle.sheets.proofs.wipe.Symbol as wipe-def
+use Rattle.sheets.proofs.wipe.Symbol.{name as #wipe}
+use Rattle.sheets.proofs.wipe.Met as wipe-thm
 use Rattle.walks.specs.Frames.{Blocks, envOf, locals, enters, leaves}
 use Rattle.walks.specs.Turns.{Round, Turn, looped, turns, tested}
 use Rattle.walks.specs.Calls.{pays-lent, called}
@@ -213,5 +213,5 @@ stamp-spec 𝓤 H 𝓜 𝓖 𝓡 =
     entered 𝓤 H (tripleOf 𝓤 H (𝓖 .A) this.signature (this.spec 𝓤 H (𝓖 .A) (𝓜 .mem) (𝓡 .run))) (tables 𝓤 H 𝓜 𝓡 code.env .C) (tables 𝓤 H 𝓜 𝓡 code.env .Λ)
     #stamp code.function (code.unfolded 𝓤 H 𝓜 𝓡)
     (stamp-meets 𝓤 H (𝓖 .A) (givenOf 𝓤 H 𝓜 𝓖) (𝓜 .mem) (𝓡 .run) (tablesOf 𝓤 H 𝓜 (tables 𝓤 H 𝓜 𝓡 code.env))
-    (cited 𝓤 H (Promised 𝓤 H (𝓖 .A) wipe.ended (wipe.clauses 𝓤 H (𝓖 .A) (𝓜 .mem) (𝓡 .run))) 𝓜 𝓡 code.env #wipe wipe-def.routine code.calls-markers·wipe (wipe-thm.met 𝓤 H 𝓜 𝓖 𝓡))
+    (cited 𝓤 H (Promised 𝓤 H (𝓖 .A) wipe.ended (wipe.clauses 𝓤 H (𝓖 .A) (𝓜 .mem) (𝓡 .run))) 𝓜 𝓡 code.env #wipe wipe-def.routine code.calls-sheets·wipe (wipe-thm.met 𝓤 H 𝓜 𝓖 𝓡))
     (cited 𝓤 H (Promised 𝓤 H (𝓖 .A) mark.ended (mark.clauses 𝓤 H (𝓖 .A) (𝓜 .mem) (𝓡 .run))) 𝓜 𝓡 code.env #mark mark-def.routine code.calls-records·mark (mark-thm.met 𝓤 H 𝓜 𝓖 𝓡)))

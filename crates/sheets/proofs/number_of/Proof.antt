@@ -1,10 +1,10 @@
--- `looks::number_of` meets its contract: sixteen bits hold the number, so nothing wraps.
+-- `number_of` meets its contract: sixteen bits hold the number, so nothing wraps.
 use mathlib.Core.Path.{refl}
 use native.Mathlib.Omega.{arith}
 use Rattle.field.specs.Workings.Sheet.{number-lt}
-use Rattle.regions.proofs.LookLaws.{number-small}
-use Rattle.regions.proofs.looks.number_of.Statement.{statement}
-use Rattle.regions.proofs.looks.number_of.Tie as tie
+use Rattle.sheets.proofs.Numbers.{number-small}
+use Rattle.sheets.proofs.number_of.Statement.{statement}
+use Rattle.sheets.proofs.number_of.Tie as tie
 
 mul-result : tie.Need-mul-result
 mul-result c = omega (arith, number-small (c .pre .sides) (c .pre .on))

@@ -2,9 +2,9 @@
 use Prim.Native.Nat.{_-_}
 use native.Mathlib.Omega.{arith}
 use lib.ListN.{length}
-use Rattle.markers.proofs.Wiping.{Wiping, wiping-start, wiping-more, wiping-end}
-use Rattle.markers.proofs.wipe.Statement.{statement}
-use Rattle.markers.proofs.wipe.Tie as tie
+use Rattle.sheets.proofs.Wiping.{Wiping, wiping-start, wiping-more, wiping-end}
+use Rattle.sheets.proofs.wipe.Statement.{statement}
+use Rattle.sheets.proofs.wipe.Tie as tie
 
 abbrev Inv-loop : tie.InvT-loop
 Inv-loop sheet₀ i₀ sheet i = Wiping sheet₀ i sheet

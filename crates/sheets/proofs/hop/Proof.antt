@@ -1,9 +1,9 @@
--- `toward` meets its contract: up where d lies above p, and else down.
+-- `hop` meets its contract: up where d lies above p, and else down.
 use mathlib.Core.Path.{sym}
 use borrow.Author.Needs.{needs}
 use Rattle.field.specs.Workings.AxisLaws.{hop-up, hop-down}
-use Rattle.hops.proofs.toward.Statement.{statement}
-use Rattle.hops.proofs.toward.Tie as tie
+use Rattle.sheets.proofs.hop.Statement.{statement}
+use Rattle.sheets.proofs.hop.Tie as tie
 
 add-result : tie.Need-add-result
 add-result c = search needs
@@ -17,5 +17,5 @@ sub-result c = search needs
 returns-2 : tie.Need-returns-2
 returns-2 c = sym (hop-down _ _ (c .if1 .left))
 
-pub toward-spec : {M : Type 1} → statement M
-toward-spec = tie.close (tie.spec add-result returns sub-result returns-2)
+pub hop-spec : {M : Type 1} → statement M
+hop-spec = tie.close (tie.spec add-result returns sub-result returns-2)

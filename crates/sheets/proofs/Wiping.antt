@@ -6,7 +6,7 @@ use native.Mathlib.Omega.{arith}
 use native.Mathlib.Decide.{decLt, ℕ-discrete}
 use lib.ListN.{length, getD, set, length-set, List·getD-eq-default}
 use lib.Seq.{getD-set-same, getD-set-other}
-use Rattle.markers.specs.Promise.{Wiped}
+use Rattle.sheets.specs.Promise.{Wiped}
 
 pub record Wiping (s : List ℕ) (i : ℕ) (t : List ℕ) : Type 0 where
   pub upto : i ≤ length t

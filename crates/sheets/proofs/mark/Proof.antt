@@ -2,8 +2,8 @@
 use native.Mathlib.Omega.{arith}
 use borrow.Author.Needs.{needs}
 use Rattle.field.specs.Workings.Sheet.{number-lt}
-use Rattle.distances.proofs.mark.Statement.{statement}
-use Rattle.distances.proofs.mark.Tie as tie
+use Rattle.sheets.proofs.mark.Statement.{statement}
+use Rattle.sheets.proofs.mark.Tie as tie
 
 mul-result : tie.Need-mul-result
 mul-result c = omega (arith, number-lt _ _ _ _ (c .pre .on), c .pre .fits .size, c .good)

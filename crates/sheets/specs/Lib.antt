@@ -1,0 +1,2 @@
+-- What the functions over sheets ask and promise.
+pub mod Promise
