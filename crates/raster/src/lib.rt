@@ -1,5 +1,5 @@
 // A map file's raster, P1 or P4. It is gone over twice: judged first, with its rocks counted, and then its rocks are entered. Here stands what both
-// formats share: a crossing's place in raster order, what judging finds, and the marker of one bit.
+// formats share: what judging finds, and the marker of one bit; and a crossing's place in raster order.
 mod plain;
 mod raw;
 
