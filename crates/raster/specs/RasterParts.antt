@@ -41,6 +41,10 @@ pub record RawRows (w h : ℕ) (body : List ℕ) : Type 0 where
   pub sides : Sides w h
   pub size : length body ≡ h * rowBytes w
 
+-- A raster that is refused for this fault.
+abbrev pub withFault : ℕ → Judged
+withFault n = record { fault = n; rocks = 0 }
+
 -- A raster of these bits, with as many rocks.
 pub record RasterOf (f : Format) (w h : ℕ) (body : List ℕ) (rocks : ℕ) : Type 0 where
   pub bits : List ℕ

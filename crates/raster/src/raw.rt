@@ -3,6 +3,7 @@ use super::Judged;
 use super::LONG_RASTER;
 use super::SHORT_RASTER;
 use super::enter_bit;
+use super::faulty;
 ghost use mathlib.Core.Path.{_≡_};
 ghost use Prim.Native.Nat.{ℕ, _/_, _<_, _≤_};
 ghost use lib.ListN.{length};
@@ -64,16 +65,10 @@ pub(crate) fn judge_raw(body: &[u8], w: usize, h: usize) -> Judged
 {
     let size = h * row_bytes(w);
     if body.len() < size {
-        return Judged {
-            fault: SHORT_RASTER,
-            rocks: 0,
-        };
+        return faulty(SHORT_RASTER);
     }
     if size < body.len() {
-        return Judged {
-            fault: LONG_RASTER,
-            rocks: 0,
-        };
+        return faulty(LONG_RASTER);
     }
     Judged {
         fault: 0,
