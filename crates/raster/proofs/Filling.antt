@@ -51,7 +51,8 @@ module _ {w h : ℕ} {bits ids₀ xs₀ ys₀ : List ℕ} (m : Room w h bits ids
       record { within = omega arith; parallel = m .parallel; size = refl; made = refl; slots = sym (entered-none w h 0 0 (listOf ids₀ xs₀ ys₀)) }
 
   -- More bits, up to the j-th.
-  module _ {ids xs ys : List ℕ} {n k : ℕ} (j : ℕ) (more : List ℕ) (f : FillingAt w h bits ids₀ xs₀ ys₀ n k ids xs ys) (e : take j bits ≡ take k bits ++ more) where
+  module _ {ids xs ys : List ℕ} {n k : ℕ} (j : ℕ) (more : List ℕ) (f : FillingAt w h bits ids₀ xs₀ ys₀ n k ids xs ys)
+      (e : take j bits ≡ take k bits ++ more) where
     -- They find a slot each.
     pub fill-left : n + ones more ≤ ones bits
     fill-left =

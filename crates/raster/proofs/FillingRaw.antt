@@ -23,7 +23,8 @@ module _ {w h : ℕ} {body ids₀ xs₀ ys₀ : List ℕ} (m : MayFill raw w h b
   pub raw-start : FillingAt w h (rawBits w h body) ids₀ xs₀ ys₀ 0 (0 * w) ids₀ xs₀ ys₀
   raw-start = rw (zero-mul w) (fill-start raw-room)
 
-  module _ {n k bytes : ℕ} {ids xs ys : List ℕ} (l : k < h) (e : bytes ≡ rowBytes w) (f : FillingAt w h (rawBits w h body) ids₀ xs₀ ys₀ n (k * w) ids xs ys) where
+  module _ {n k bytes : ℕ} {ids xs ys : List ℕ} (l : k < h) (e : bytes ≡ rowBytes w)
+      (f : FillingAt w h (rawBits w h body) ids₀ xs₀ ys₀ n (k * w) ids xs ys) where
     -- The slice that starts at the row's first byte.
     abbrev row : List ℕ
     row = take (length body - k * bytes) (drop (k * bytes) body)

@@ -59,7 +59,8 @@ module _ {row : List ℕ} {w y n₀ : ℕ} {ids₀ xs₀ ys₀ : List ℕ} (m : 
             (e ∙ ap (λ (i : ℕ). h - (i + 1)) (sym (digits-div k l)))
             t)
 
-  pub row-end : {x n : ℕ} {ids xs ys : List ℕ} → x ≤ w → w ≤ x → FillsRow row w y x n₀ ids₀ xs₀ ys₀ ids xs ys n → FillsRow row w y w n₀ ids₀ xs₀ ys₀ ids xs ys n
+  pub row-end : {x n : ℕ} {ids xs ys : List ℕ} → x ≤ w → w ≤ x → FillsRow row w y x n₀ ids₀ xs₀ ys₀ ids xs ys n
+      → FillsRow row w y w n₀ ids₀ xs₀ ys₀ ids xs ys n
   row-end {x} {n} {ids} {xs} {ys} p q = subst (λ (i : ℕ). FillsRow row w y i n₀ ids₀ xs₀ ys₀ ids xs ys n) all
     where
       all : x ≡ w

@@ -92,7 +92,9 @@ returns-2 c =
     let t = c .before .before in
     let i = t .before .before .before .before .before in
     rw (c .faulty2 .ensures)
-    (judged-long (i .before .loop .inv) (i .loop-test .taken) (answered-no (not-true _ (t .if3 .taken)) (t .before .is-blank .ensures .1)) (c .before .if4 .taken))
+    (judged-long (i .before .loop .inv) (i .loop-test .taken)
+    (answered-no (not-true _ (t .if3 .taken)) (t .before .is-blank .ensures .1))
+    (c .before .if4 .taken))
 
 faulty-requires-3 : tie.Need-faulty-requires-3 Inv-loop μ-loop
 faulty-requires-3 c κs = tt

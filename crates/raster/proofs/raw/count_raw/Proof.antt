@@ -18,7 +18,9 @@ row-bytes-requires : tie.Need-row-bytes-requires Inv-loop μ-loop
 row-bytes-requires c κs = search needs
 
 -- Where a row starts there are bytes of it.
-start-within : (c : tie.In-loop Inv-loop μ-loop) → c .before .loop .k * c .before .before .row-bytes .result ≤ length (c .before .before .before .before .args .body .now)
+start-within : (c : tie.In-loop Inv-loop μ-loop)
+    → let b = c .before .before in
+    c .before .loop .k * b .row-bytes .result ≤ length (b .before .before .args .body .now)
 start-within c =
     let b = c .before .before in
     slice-within (raster (b .before .before .pre)) (c .before .loop .k) (c .loop-test .taken) (b .row-bytes .ensures)
