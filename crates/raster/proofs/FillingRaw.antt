@@ -1,56 +1,54 @@
--- A P4 raster's rocks being entered: its bits are the packed ones, each read where it stands.
-use mathlib.Core.Path.{_≡_, sym, ap, _∙_}
-use mathlib.Core.List.{List, _++_}
-use Prim.Native.Nat.{ℕ, _<_, _≤_}
+-- A P4 raster's rocks being entered, row by row: each row's bits are the next of the map's.
+use mathlib.Core.Path.{_≡_, refl}
+use mathlib.Core.List.{List}
+use Prim.Native.Nat.{ℕ, _+_, _*_, _-_, _<_, _≤_}
 use native.Mathlib.Omega.{arith}
-use lib.ListN.{length, getD, drop}
-use Rattle.markers.specs.Promise.{listOf}
-use Rattle.mapfile.specs.Raster.{packedBit, RawRaster}
+use native.Mathlib.Nat.{zero-mul, mul-le-mul-right}
+use lib.ListN.{length, take, drop}
+use Rattle.mapfile.specs.Raster.{rowBytes, RawRaster}
 use Rattle.mapfile.specs.RasterWorking.{rawBits}
 use Rattle.mapfile.specs.RasterLaws.{raw-raster, raw-raster-one}
-use Rattle.mapfile.specs.File.{raw, markersOf}
-use Rattle.mapfile.specs.MarkerLaws.{ones}
-use Rattle.mapfile.specs.RockLaws.{raster-bits, markers-count}
-use Rattle.raster.specs.RasterParts.{placeOf, MayLook, MayFill, Fills}
-use Rattle.raster.specs.declared.Place.{Place}
-use Rattle.raster.proofs.Rows.{rows-end, byte-below}
-use Rattle.raster.proofs.Filling.{Room, FillingAt, fill-end}
+use Rattle.mapfile.specs.File.{raw}
+use Rattle.raster.specs.RasterParts.{rowBits, MayFillRow, FillsRow, MayFill, Fills}
+use Rattle.raster.proofs.PackedRows.{slice-long, row-taken}
+use Rattle.raster.proofs.Filling.{Room, room-for, FillingAt, fill-start, fill-left, fill-more, fill-end}
 
-module _ {w h : ℕ} {body ids xs ys : List ℕ} (m : MayFill raw w h body ids xs ys) where
-  raster : RawRaster w h body (rawBits w h body)
-  raster = raw-raster w h body (m .raster .size)
+module _ {w h : ℕ} {body ids₀ xs₀ ys₀ : List ℕ} (m : MayFill raw w h body ids₀ xs₀ ys₀) where
+  pub raw-bits : RawRaster w h body (rawBits w h body)
+  raw-bits = raw-raster w h body (m .raster .size)
 
-  bits-are : m .bits ≡ rawBits w h body
-  bits-are = raw-raster-one (m .raster) raster
+  pub raw-room : Room w h (rawBits w h body) ids₀ xs₀ ys₀
+  raw-room = room-for (rawBits w h body) m (raw-raster-one (m .raster) raw-bits) (raw-bits .crossings)
 
-  rocks : length (markersOf w h (m .bits)) ≡ ones (rawBits w h body)
-  rocks = markers-count (m .bits) (m .sides) (m .raster .crossings) ∙ ap ones bits-are
+  pub raw-start : FillingAt w h (rawBits w h body) ids₀ xs₀ ys₀ 0 (0 * w) ids₀ xs₀ ys₀
+  raw-start = rw (zero-mul w) (fill-start raw-room)
 
-  pub raw-room : Room w h (rawBits w h body) ids xs ys
-  raw-room =
-      record {
-        sides = m .sides;
-        parallel = m .parallel;
-        crossings = raster .crossings;
-        are = raster-bits raw w h body (rawBits w h body) raster;
-        room = omega (arith, m .room, rocks);
-        few = omega (arith, m .few, rocks);
-      }
+  module _ {n k bytes : ℕ} {ids xs ys : List ℕ} (l : k < h) (e : bytes ≡ rowBytes w)
+      (f : FillingAt w h (rawBits w h body) ids₀ xs₀ ys₀ n (k * w) ids xs ys) where
+    -- The slice that starts at the row's first byte.
+    abbrev row : List ℕ
+    row = take (length body - k * bytes) (drop (k * bytes) body)
 
-  pub raw-look : {p : Place} → p .row < h → p .x < w → MayLook w body (p .row) (p .x)
-  raw-look {p} l k = record { most = m .sides .most-w; there = omega (arith, byte-below w h (p .row) (p .x) l k, m .raster .size) }
+    pub raw-may : MayFillRow row w (h - (k + 1)) n ids xs ys
+    raw-may =
+        let left = fill-left raw-room ((k + 1) * w) (rowBits row w) f (row-taken raw-bits k l e) in
+        record {
+          most-w = m .sides .most-w;
+          in-y = omega (arith, m .sides .most-h);
+          bytes = slice-long raw-bits k l e;
+          parallel = f .parallel;
+          room = omega (arith, left, raw-room .room, f .size);
+          few = omega (arith, left, raw-room .few);
+        }
 
-  pub raw-bit : {p : Place} {bit : ℕ} → p .row < h → p .x < w → bit ≡ packedBit w body (p .row) (p .x)
-      → bit ≡ getD (rawBits w h body) (placeOf w p) 0
-  raw-bit {p} l k e = e ∙ sym (raster .bit (p .row) (p .x) l k)
+    -- One row further.
+    pub raw-more : {r : ℕ} {ids′ xs′ ys′ : List ℕ} → FillsRow row w (h - (k + 1)) w n ids xs ys ids′ xs′ ys′ r → length ids′ ≡ length ids
+        → FillingAt w h (rawBits w h body) ids₀ xs₀ ys₀ r ((k + 1) * w) ids′ xs′ ys′
+    raw-more t size =
+        fill-more raw-room ((k + 1) * w) (rowBits row w) f (row-taken raw-bits k l e) (mul-le-mul-right {m = k + 1} {n = h} w (omega arith))
+        (t .parallel) size (t .counted) (t .slots h k refl)
 
-  pub raw-fills : {n : ℕ} {p : Place} {ids′ xs′ ys′ : List ℕ} → h ≤ p .row → FillingAt w h (rawBits w h body) ids xs ys n p ids′ xs′ ys′
-      → Fills raw w h body ids xs ys ids′ xs′ ys′
-  raw-fills {n} {p} {ids′} {xs′} {ys′} l k = record { parallel = k .parallel; slots = filled }
-    where
-      filled : (bits : List ℕ) → RawRaster w h body bits
-          → listOf ids′ xs′ ys′ ≡ markersOf w h bits ++ drop (length (markersOf w h bits)) (listOf ids xs ys)
-      filled bits r =
-          fill-end raw-room (rows-end w h (p .row) (p .x) l (k .within)) k
-          ∙ ap (λ (b : List ℕ). markersOf w h b ++ drop (ones b) (listOf ids xs ys)) (raw-raster-one raster r)
-          ∙ ap (λ (i : ℕ). markersOf w h bits ++ drop i (listOf ids xs ys)) (sym (markers-count bits (m .sides) (r .crossings)))
+  pub raw-fills : {n k : ℕ} {ids xs ys : List ℕ} → h ≤ k → FillingAt w h (rawBits w h body) ids₀ xs₀ ys₀ n (k * w) ids xs ys
+      → Fills raw w h body ids₀ xs₀ ys₀ ids xs ys
+  raw-fills {k} l f =
+      fill-end raw-room (λ b r. raw-raster-one raw-bits r) (omega (arith, f .within, mul-le-mul-right {m = h} {n = k} w l)) f

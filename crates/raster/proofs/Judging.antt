@@ -9,11 +9,12 @@ use Rattle.mapfile.specs.RasterWorking.{rawBits}
 use Rattle.mapfile.specs.RasterLaws.{raw-raster}
 use Rattle.mapfile.specs.File.{raw, markersOf}
 use Rattle.mapfile.specs.MarkerLaws.{ones, markers-length}
-use Rattle.raster.specs.RasterParts.{JudgedAs}
+use Rattle.raster.specs.RasterParts.{withFault, JudgedAs}
 use Rattle.raster.specs.declared.Judged.{Judged}
 
-abbrev pub judged : ℕ → ℕ → Judged
-judged n rocks = record { fault = n; rocks = rocks }
+-- A raster without fault, with as many rocks.
+abbrev pub good-with : ℕ → Judged
+good-with rocks = record { fault = 0; rocks = rocks }
 
 -- There are as many markers as bits that are 1.
 pub rocks-marked : (w h : ℕ) (bits : List ℕ) (rocks : ℕ) → rocks ≡ ones bits → rocks ≡ length (markersOf w h bits)
@@ -21,13 +22,13 @@ unfolding markersOf
 rocks-marked w h bits rocks e = e ∙ sym (markers-length w h 1 0 bits)
 
 module _ (w h : ℕ) (body : List ℕ) where
-  pub raw-judged-short : (rocks : ℕ) → length body < h * rowBytes w → JudgedAs raw w h body (judged 14 rocks)
-  raw-judged-short rocks l = record { faulty = λ n. raw-short l refl; good = λ (e : _≡_ {A = ℕ} 14 0). absurd (omega arith) }
+  pub raw-judged-short : length body < h * rowBytes w → JudgedAs raw w h body (withFault 14)
+  raw-judged-short l = record { faulty = λ n. raw-short l refl; good = λ (e : _≡_ {A = ℕ} 14 0). absurd (omega arith) }
 
-  pub raw-judged-long : (rocks : ℕ) → h * rowBytes w < length body → JudgedAs raw w h body (judged 15 rocks)
-  raw-judged-long rocks l = record { faulty = λ n. raw-long l refl; good = λ (e : _≡_ {A = ℕ} 15 0). absurd (omega arith) }
+  pub raw-judged-long : h * rowBytes w < length body → JudgedAs raw w h body (withFault 15)
+  raw-judged-long l = record { faulty = λ n. raw-long l refl; good = λ (e : _≡_ {A = ℕ} 15 0). absurd (omega arith) }
 
-  pub raw-judged-good : (rocks : ℕ) → length body ≡ h * rowBytes w → rocks ≡ ones (rawBits w h body) → JudgedAs raw w h body (judged 0 rocks)
+  pub raw-judged-good : (rocks : ℕ) → length body ≡ h * rowBytes w → rocks ≡ ones (rawBits w h body) → JudgedAs raw w h body (good-with rocks)
   raw-judged-good rocks l e =
       record {
         faulty = λ n. absurd (n refl);

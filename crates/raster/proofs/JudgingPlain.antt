@@ -21,14 +21,15 @@ use Rattle.mapfile.specs.Raster.{
   plain-short,
   plain-long,
 }
+use Rattle.mapfile.specs.RasterWorking.{blank-no-bit}
 use Rattle.mapfile.specs.RasterLaws.{digits-append}
 use Rattle.mapfile.specs.File.{plain}
 use Rattle.mapfile.specs.MarkerLaws.{ones, ones-le, ones-snoc}
-use Rattle.raster.specs.RasterParts.{BitByte, zero-byte, one-byte, JudgedAs}
+use Rattle.raster.specs.RasterParts.{BitByte, zero-byte, one-byte, withFault, JudgedAs}
 use Rattle.field.specs.Limits.{crossing-slots, crossings-few}
 use Rattle.raster.proofs.Rows.{take-next}
 use Rattle.header.specs.Left.{left-cons}
-use Rattle.raster.proofs.Judging.{judged, rocks-marked}
+use Rattle.raster.proofs.Judging.{good-with, rocks-marked}
 
 pub record JudgingPlain (w h : ℕ) (body : List ℕ) (digits rocks i : ℕ) : Type 0 where
   pub within : i ≤ length body
@@ -50,6 +51,11 @@ bit-digits (one-byte e) = rw e (one-digit (ended refl refl) refl refl)
 pub bit-value : {b : ℕ} → BitByte b → (48 ≤ b) × (b - 48 ≤ 1)
 bit-value (zero-byte e) = (omega arith, omega arith)
 bit-value (one-byte e) = (omega arith, omega arith)
+
+-- No digit is a blank.
+pub bit-no-blank : {b : ℕ} → BitByte b → ¬ Blank b
+bit-no-blank (zero-byte e) l = blank-no-bit l .0 e
+bit-no-blank (one-byte e) l = blank-no-bit l .1 e
 
 -- A byte that is neither a blank nor a digit 0 or 1 is no byte of a P1 raster.
 foreign : {b : ℕ} → ¬ Blank b → ¬ BitByte b → ¬ PlainByte b
@@ -87,7 +93,7 @@ module _ {w h : ℕ} {body : List ℕ} {digits rocks i : ℕ} (k : JudgingPlain 
   parted : i < length body → body ≡ take i body ++ getD body i 0 ∷ drop (i + 1) body
   parted l = sym (take-append-drop i body) ∙ ap (λ (m : List ℕ). take i body ++ m) (left-cons body i l)
 
-  pub judged-long : i < length body → ¬ Blank (getD body i 0) → digits ≡ h * w → JudgedAs plain w h body (judged 15 rocks)
+  pub judged-long : i < length body → ¬ Blank (getD body i 0) → digits ≡ h * w → JudgedAs plain w h body (withFault 15)
   judged-long l b n =
       record {
         faulty = λ z. plain-long (k .bits) (take i body) (drop (i + 1) body) (getD body i 0) (k .passed) (omega (arith, k .counted)) b (parted l) refl;
@@ -95,7 +101,7 @@ module _ {w h : ℕ} {body : List ℕ} {digits rocks i : ℕ} (k : JudgingPlain 
       }
 
   pub judged-foreign : i < length body → ¬ Blank (getD body i 0) → ¬ BitByte (getD body i 0) → ¬ (digits ≡ h * w)
-      → JudgedAs plain w h body (judged 13 rocks)
+      → JudgedAs plain w h body (withFault 13)
   judged-foreign l b c n =
       record {
         faulty = λ z.
@@ -107,14 +113,14 @@ module _ {w h : ℕ} {body : List ℕ} {digits rocks i : ℕ} (k : JudgingPlain 
   whole : length body ≤ i → Digits (k .bits) body
   whole l = subst (Digits (k .bits)) (take-all i body l) (k .passed)
 
-  pub judged-short : length body ≤ i → digits < h * w → JudgedAs plain w h body (judged 14 rocks)
+  pub judged-short : length body ≤ i → digits < h * w → JudgedAs plain w h body (withFault 14)
   judged-short l n =
       record {
         faulty = λ z. plain-short (k .bits) (whole l) (omega (arith, k .counted)) refl;
         good = λ (e : _≡_ {A = ℕ} 14 0). absurd (omega arith);
       }
 
-  pub judged-good : length body ≤ i → h * w ≤ digits → JudgedAs plain w h body (judged 0 rocks)
+  pub judged-good : length body ≤ i → h * w ≤ digits → JudgedAs plain w h body (good-with rocks)
   judged-good l n =
       record {
         faulty = λ z. absurd (z refl);

@@ -1,7 +1,7 @@
 -- Crossings in raster order: the crossing in column x of the row that stands `row` rows from the north is the (row * w + x)-th.
 use mathlib.Core.Path.{_≡_}
 use mathlib.Core.List.{List, [], _∷_, _++_}
-use Prim.Native.Nat.{ℕ, _+_, _*_, _/_, _<_, _≤_}
+use Prim.Native.Nat.{ℕ, _+_, _*_, _<_}
 use native.Mathlib.Omega.{arith}
 use native.Mathlib.Nat.{mul-le-mul-right}
 use native.Mathlib.Decide.{decLt}
@@ -9,7 +9,6 @@ use native.Mathlib.Numerals.{add-one}
 use lib.ListN.{length, getD, take}
 use lib.Seq.{take-suc}
 use Rattle.field.specs.Workings.Sheet.{number-lt}
-use Rattle.mapfile.specs.Raster.{rowBytes}
 
 -- A crossing of the raster is in one of its rows, and its place is below their number.
 pub row-below : (w h row x : ℕ) → row * w + x < h * w → row < h
@@ -21,18 +20,6 @@ row-below w h row x l = go (decLt row h)
 
 pub place-below : (w h row x : ℕ) → row < h → x < w → row * w + x < h * w
 place-below w h row x p q = number-lt w h x row (record { in-x = q; in-y = p })
-
--- Past the last row no crossing is left.
-pub rows-end : (w h row x : ℕ) → h ≤ row → row * w + x ≤ h * w → row * w + x ≡ h * w
-rows-end w h row x p l = omega (arith, mul-le-mul-right {m = h} {n = row} w p)
-
--- The byte of a packed bit is there.
-eighth-below : (w x : ℕ) → x < w → x / 8 < rowBytes w
-unfolding rowBytes
-eighth-below w x l = omega arith
-
-pub byte-below : (w h row x : ℕ) → row < h → x < w → row * rowBytes w + x / 8 < h * rowBytes w
-byte-below w h row x p q = place-below (rowBytes w) h row (x / 8) p (eighth-below w x q)
 
 -- One element more of a list.
 pub take-next : (l : List ℕ) (k : ℕ) → k < length l → take (k + 1) l ≡ take k l ++ getD l k 0 ∷ []

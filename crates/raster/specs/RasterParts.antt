@@ -1,14 +1,15 @@
--- What each part of reading a raster promises: steps and looks in it, its judgement, and its rocks entered.
+-- What each part of reading a raster promises: steps in it, the bits of its packed rows, its judgement, and its rocks entered.
 use mathlib.Core.Path.{_≡_}
 use mathlib.Core.Bool.{Bool, true, false}
-use mathlib.Core.List.{List, _++_}
-use Prim.Native.Nat.{ℕ, zero, suc, _+_, _*_, _/_, _<_, _≤_}
-use lib.ListN.{length, drop, set}
+use mathlib.Core.List.{List, [], _∷_, _++_}
+use Prim.Native.Nat.{ℕ, zero, suc, _+_, _*_, _-_, _/_, _%_, _^_, _<_, _≤_}
+use lib.ListN.{length, getD, take, drop, set}
 use Rattle.field.specs.declared.Marker.{Marker}
 use Rattle.field.specs.Map.{side, most-markers, Sides}
 use Rattle.markers.specs.Promise.{marker, listOf, Parallel}
 use Rattle.mapfile.specs.Raster.{rowBytes}
-use Rattle.mapfile.specs.File.{Format, plain, raw, Raster, RasterFault, markersOf}
+use Rattle.mapfile.specs.File.{Format, plain, raw, Raster, RasterFault, markersFrom, markersOf}
+use Rattle.mapfile.specs.MarkerLaws.{ones}
 use Rattle.raster.specs.declared.Place.{Place}
 use Rattle.raster.specs.declared.Judged.{Judged}
 
@@ -26,15 +27,23 @@ pub record Steps (w : ℕ) (p q : Place) : Type 0 where
   pub in-x : q .x < w
   pub next : placeOf w q ≡ placeOf w p + 1
 
--- A look at a packed bit asks for its byte.
-pub record MayLook (w : ℕ) (body : List ℕ) (row x : ℕ) : Type 0 where
-  pub most : w ≤ side
-  pub there : row * rowBytes w + x / 8 < length body
+-- The bit of column x in a packed row: "highest bit westmost, 1 a rock".
+unfoldable pub rowBit : List ℕ → ℕ → ℕ
+rowBit row x = getD row (x / 8) 0 / 2 ^ (7 - x % 8) % 2
+
+-- The bits of a packed row's first x columns.
+unfoldable pub rowBits : List ℕ → ℕ → List ℕ
+rowBits row zero = []
+rowBits row (suc x) = rowBits row x ++ rowBit row x ∷ []
 
 -- The bytes are the packed rows, and nothing more.
 pub record RawRows (w h : ℕ) (body : List ℕ) : Type 0 where
   pub sides : Sides w h
   pub size : length body ≡ h * rowBytes w
+
+-- A raster that is refused for this fault.
+abbrev pub withFault : ℕ → Judged
+withFault n = record { fault = n; rocks = 0 }
 
 -- A raster of these bits, with as many rocks.
 pub record RasterOf (f : Format) (w h : ℕ) (body : List ℕ) (rocks : ℕ) : Type 0 where
@@ -68,6 +77,25 @@ pub record EntersBit (ids xs ys : List ℕ) (n bit x y : ℕ) (ids′ xs′ ys�
   pub parallel : Parallel ids′ xs′ ys′
   pub slots : listOf ids′ xs′ ys′ ≡ slotBit bit (listOf ids xs ys) n (marker (n + 1) x y)
   pub counted : r ≡ countBit bit n
+
+-- The list with the rocks of these bits entered after its first n slots; the first bit is the k-th of the map, and other slots stay.
+unfoldable pub entered : (w h k : ℕ) → List ℕ → ℕ → List Marker → List Marker
+entered w h k bits n list = take n list ++ markersFrom w h (n + 1) k bits ++ drop (n + ones bits) list
+
+-- Entering a row's rocks asks for the row's bytes, and for a slot for each rock after the n that are entered.
+pub record MayFillRow (row : List ℕ) (w y n : ℕ) (ids xs ys : List ℕ) : Type 0 where
+  pub most-w : w ≤ side
+  pub in-y : y < side
+  pub bytes : rowBytes w ≤ length row
+  pub parallel : Parallel ids xs ys
+  pub room : n + ones (rowBits row w) ≤ length ids
+  pub few : n + ones (rowBits row w) ≤ most-markers
+
+-- The rocks of a row's first x columns entered, as those of the k-th row from the north in whatever map has this y there.
+pub record FillsRow (row : List ℕ) (w y x n : ℕ) (ids xs ys ids′ xs′ ys′ : List ℕ) (r : ℕ) : Type 0 where
+  pub parallel : Parallel ids′ xs′ ys′
+  pub counted : r ≡ n + ones (rowBits row x)
+  pub slots : (h k : ℕ) → y ≡ h - (k + 1) → listOf ids′ xs′ ys′ ≡ entered w h (k * w) (rowBits row x) n (listOf ids xs ys)
 
 -- Entering a raster's rocks asks for a raster, and for a slot for each of them.
 pub record MayFill (f : Format) (w h : ℕ) (body ids xs ys : List ℕ) : Type 0 where

@@ -1,11 +1,12 @@
 // A map file's raster, P1 or P4. It is gone over twice: judged first, with its rocks counted, and then its rocks are entered. Here stands what both
-// formats share: a crossing's place in raster order, what judging finds, and the marker of one bit.
+// formats share: what judging finds, and the marker of one bit; and a crossing's place in raster order.
 mod plain;
 mod raw;
 
+ghost use mathlib.Core.Path.{_≡_};
 ghost use Prim.Native.Nat.{ℕ};
 ghost use Rattle.field.specs.Map.{Sides};
-ghost use Rattle.raster.specs.RasterParts.{MayStep, Steps, JudgedAs, MayEnterBit, EntersBit, MayFill, Fills, formatOf};
+ghost use Rattle.raster.specs.RasterParts.{MayStep, Steps, withFault, JudgedAs, MayEnterBit, EntersBit, MayFill, Fills, formatOf};
 
 // Document 01's refusal numbers of a raster.
 pub(crate) const BAD_HEADER: u8 = 13;
@@ -24,6 +25,13 @@ pub(crate) struct Place {
 pub struct Judged {
     pub fault: u8,
     pub rocks: usize,
+}
+
+// A raster that is refused for this fault.
+pub(crate) fn faulty(fault: u8) -> Judged
+    ensures { λ r. ⌜ r ≡ withFault fault ⌝ }
+{
+    Judged { fault, rocks: 0 }
 }
 
 // The next crossing in raster order: from the west, row by row.

@@ -5,6 +5,7 @@ use super::LONG_RASTER;
 use super::Place;
 use super::SHORT_RASTER;
 use super::enter_bit;
+use super::faulty;
 use super::next;
 use header::is_blank;
 ghost use mathlib.Core.Path.{_≡_};
@@ -15,20 +16,15 @@ ghost use Rattle.field.specs.Map.{Sides};
 ghost use Rattle.mapfile.specs.File.{plain};
 ghost use Rattle.raster.specs.RasterParts.{JudgedAs, MayFill, Fills, BitByte};
 
-// Whether the byte is a digit 0 or 1.
+// Whether the byte is a digit 0 or 1, in one test: b'0' is 48 and b'1' is 49, and no other byte gives 24 when it is halved.
 fn is_bit(b: u8) -> bool
     ensures { λ r. ⌜ ((r ≡ true) ↔ BitByte b) ⌝ }
 {
-    if b == b'0' {
-        return true;
-    }
-    if b == b'1' {
-        return true;
-    }
-    false
+    b / 2 == 24
 }
 
-// Judges a P1 raster: "digits 0 and 1, blanks allowed anywhere before, between and after". It stops at the first fault met.
+// Judges a P1 raster: "digits 0 and 1, blanks allowed anywhere before, between and after". It stops at the first fault met. Most bytes
+// are digits, so a byte is tried as a digit first, and as a blank only where it is none.
 pub(crate) fn judge_plain(body: &[u8], w: usize, h: usize) -> Judged
     requires { ⌜ Sides w h ⌝ }
     ensures { λ r. ⌜ JudgedAs plain w h (now (body .entry)) r ⌝ }
@@ -40,28 +36,21 @@ pub(crate) fn judge_plain(body: &[u8], w: usize, h: usize) -> Judged
     while i < body.len() {
         let b = body[i];
         i += 1;
-        if !is_blank(b) {
+        if is_bit(b) {
             if digits == size {
-                return Judged {
-                    fault: LONG_RASTER,
-                    rocks,
-                };
-            }
-            if !is_bit(b) {
-                return Judged {
-                    fault: BAD_HEADER,
-                    rocks,
-                };
+                return faulty(LONG_RASTER);
             }
             digits += 1;
             rocks += (b - b'0') as usize;
+        } else if !is_blank(b) {
+            if digits == size {
+                return faulty(LONG_RASTER);
+            }
+            return faulty(BAD_HEADER);
         }
     }
     if digits < size {
-        return Judged {
-            fault: SHORT_RASTER,
-            rocks,
-        };
+        return faulty(SHORT_RASTER);
     }
     Judged { fault: 0, rocks }
 }

@@ -1,18 +1,18 @@
 // The P4 raster: "each row is packed eight crossings to a byte, highest bit westmost, 1 a rock".
 use super::Judged;
 use super::LONG_RASTER;
-use super::Place;
 use super::SHORT_RASTER;
 use super::enter_bit;
-use super::next;
+use super::faulty;
 ghost use mathlib.Core.Path.{_≡_};
-ghost use Prim.Native.Nat.{ℕ, _≤_};
+ghost use Prim.Native.Nat.{ℕ, _/_, _<_, _≤_};
+ghost use lib.ListN.{length};
 ghost use Rattle.field.specs.Map.{side, Sides};
-ghost use Rattle.mapfile.specs.Raster.{rowBytes, packedBit};
+ghost use Rattle.mapfile.specs.Raster.{rowBytes};
 ghost use Rattle.mapfile.specs.RasterWorking.{rawBits};
 ghost use Rattle.mapfile.specs.File.{raw};
 ghost use Rattle.mapfile.specs.MarkerLaws.{ones};
-ghost use Rattle.raster.specs.RasterParts.{MayLook, RawRows, JudgedAs, MayFill, Fills};
+ghost use Rattle.raster.specs.RasterParts.{rowBit, rowBits, RawRows, JudgedAs, MayFillRow, FillsRow, MayFill, Fills};
 
 // How many bytes a packed row has: eight crossings to a byte.
 fn row_bytes(w: usize) -> usize
@@ -22,25 +22,38 @@ fn row_bytes(w: usize) -> usize
     (w + 7) / 8
 }
 
-// The bit of a crossing in packed rows: "highest bit westmost, 1 a rock".
-fn bit_at(body: &[u8], w: usize, row: usize, x: usize) -> u8
-    requires { ⌜ MayLook w (now body) row x ⌝ }
-    ensures { λ r. ⌜ r ≡ packedBit w (now (body .entry)) row x ⌝ }
+// The bit of column x in a packed row: "highest bit westmost, 1 a rock".
+fn bit_at(row: &[u8], x: usize) -> u8
+    requires { ⌜ x / 8 < length (now row) ⌝ }
+    ensures { λ r. ⌜ r ≡ rowBit (now (row .entry)) x ⌝ }
 {
-    let i = row * row_bytes(w) + x / 8;
-    (body[i] >> (7 - x % 8)) % 2
+    (row[x / 8] >> (7 - x % 8)) % 2
 }
 
-// How many rocks the packed rows hold. "Pad bits at a row's end are ignored": they are not looked at.
+// How many rocks a packed row holds. "Pad bits at a row's end are ignored": they are not looked at.
+fn count_row(row: &[u8], w: usize) -> usize
+    requires { ⌜ rowBytes w ≤ length (now row) ⌝ }
+    ensures { λ r. ⌜ r ≡ ones (rowBits (now (row .entry)) w) ⌝ }
+{
+    let mut rocks: usize = 0;
+    let mut x = 0;
+    while x < w {
+        rocks += bit_at(row, x) as usize;
+        x += 1;
+    }
+    rocks
+}
+
+// How many rocks the packed rows hold.
 fn count_raw(body: &[u8], w: usize, h: usize) -> usize
     requires { ⌜ RawRows w h (now body) ⌝ }
     ensures { λ r. ⌜ r ≡ ones (rawBits w h (now (body .entry))) ⌝ }
 {
+    let bytes = row_bytes(w);
     let mut rocks: usize = 0;
-    let mut p = Place { x: 0, row: 0 };
-    while p.row < h {
-        rocks += bit_at(body, w, p.row, p.x) as usize;
-        p = next(p, w);
+    for k in 0..h {
+        let at = k * bytes;
+        rocks += count_row(&body[at..], w);
     }
     rocks
 }
@@ -52,21 +65,35 @@ pub(crate) fn judge_raw(body: &[u8], w: usize, h: usize) -> Judged
 {
     let size = h * row_bytes(w);
     if body.len() < size {
-        return Judged {
-            fault: SHORT_RASTER,
-            rocks: 0,
-        };
+        return faulty(SHORT_RASTER);
     }
     if size < body.len() {
-        return Judged {
-            fault: LONG_RASTER,
-            rocks: 0,
-        };
+        return faulty(LONG_RASTER);
     }
     Judged {
         fault: 0,
         rocks: count_raw(body, w, h),
     }
+}
+
+// Enters the rocks of a packed row whose crossings have this y, after n that are entered. Hands back how many are entered then.
+fn fill_row(
+    row: &[u8],
+    w: usize,
+    y: usize,
+    n: usize,
+    ids: &mut [u16],
+    xs: &mut [u16],
+    ys: &mut [u16],
+) -> usize
+    requires { ⌜ MayFillRow (now row) w y n (now ids) (now xs) (now ys) ⌝ }
+    ensures { λ r. ⌜ FillsRow (now (row .entry)) w y w n (now (ids .entry)) (now (xs .entry)) (now (ys .entry)) (now (ids .exit)) (now (xs .exit)) (now (ys .exit)) r ⌝ }
+{
+    let mut made = n;
+    for x in 0..w {
+        made = enter_bit(ids, xs, ys, made, bit_at(row, x), x, y);
+    }
+    made
 }
 
 // Enters the rocks of a P4 raster in raster order. "The first raster row is the northmost."
@@ -81,11 +108,10 @@ pub(crate) fn fill_raw(
     requires { ⌜ MayFill raw w h (now body) (now ids) (now xs) (now ys) ⌝ }
     ensures { λ _. ⌜ Fills raw w h (now (body .entry)) (now (ids .entry)) (now (xs .entry)) (now (ys .entry)) (now (ids .exit)) (now (xs .exit)) (now (ys .exit)) ⌝ }
 {
+    let bytes = row_bytes(w);
     let mut n: usize = 0;
-    let mut p = Place { x: 0, row: 0 };
-    while p.row < h {
-        let bit = bit_at(body, w, p.row, p.x);
-        n = enter_bit(ids, xs, ys, n, bit, p.x, h - (p.row + 1));
-        p = next(p, w);
+    for k in 0..h {
+        let at = k * bytes;
+        n = fill_row(&body[at..], w, h - (k + 1), n, ids, xs, ys);
     }
 }

@@ -1,34 +1,37 @@
 -- `fill_plain` meets its contract: the loop keeps FillingAt over the bits of the digits, with the place of the next digit.
-use mathlib.Core.Path.{refl}
 use Prim.Native.Nat.{_-_, _<_}
 use native.Mathlib.Omega.{arith}
 use lib.ListN.{length, getD}
-use Rattle.raster.specs.RasterParts.{BitByte}
+use Rattle.raster.specs.RasterParts.{placeOf, BitByte}
 use Rattle.mapfile.specs.RasterWorking.{digitsOf}
 use Rattle.header.specs.Answers.{answered-no}
 use Rattle.raster.proofs.JudgingPlain.{bit-value}
-use Rattle.raster.proofs.Filling.{FillingAt, fill-start, fill-may, fill-step, fill-more}
+use Rattle.raster.proofs.Filling.{FillingAt}
 use Rattle.raster.proofs.FillingPlain.{
   PassedPlain,
   passed-start,
-  passed-bit,
   passed-digit,
   passed-other,
-  plain-room,
+  plain-start,
   plain-row,
+  plain-step,
+  plain-may,
+  plain-more,
   plain-fills,
 }
 use Rattle.raster.proofs.plain.fill_plain.Statement.{statement}
 use Rattle.raster.proofs.plain.fill_plain.Tie as tie
 
 abbrev Inv-loop : tie.InvT-loop
-Inv-loop body w h ids₀ xs₀ ys₀ n₀ p₀ i₀ ids xs ys n p i = FillingAt w h (digitsOf body) ids₀ xs₀ ys₀ n p ids xs ys × PassedPlain w body p i
+Inv-loop body w h ids₀ xs₀ ys₀ n₀ p₀ i₀ ids xs ys n p i = FillingAt w h (digitsOf body) ids₀ xs₀ ys₀ n (placeOf w p) ids xs ys × PassedPlain w body p i
 
 abbrev μ-loop : tie.MeasureT-loop
 μ-loop body w h ids₀ xs₀ ys₀ n₀ p₀ i₀ ids xs ys n p i = length body - i
 
 loop-holds : tie.Need-loop-holds Inv-loop μ-loop
-loop-holds c = (fill-start (plain-room (c .before .before .before .before .pre)), passed-start _ _)
+loop-holds c =
+    let m = c .before .before .before .before .pre in
+    (plain-start m, passed-start _ _ (m .sides .some-w))
 
 shared-slice-read-b : tie.Need-shared-slice-read-b Inv-loop μ-loop
 shared-slice-read-b c = omega arith
@@ -62,19 +65,16 @@ sub-enter-bit-2 c = omega (arith, row-here (c .before .before .before .before))
 enter-bit-requires : tie.Need-enter-bit-requires Inv-loop μ-loop
 enter-bit-requires c κs =
     let t = c .before .before .before .before in
-    let l = t .before .before .before .before in
-    let s = l .before .before .before .before .before in
-    fill-may (plain-room (s .pre)) (row-here t) (l .loop .inv .0) _ _
-    (passed-bit (t .before .before .before .loop-test .taken) (l .loop .inv .1) (bit-here t))
-    (omega (arith, row-here t, s .pre .sides .most-h))
+    let i = t .before .before .before in
+    let l = i .before in
+    plain-may (l .before .before .before .before .before .pre) (i .loop-test .taken) (l .loop .inv .1) (bit-here t) (l .loop .inv .0)
 
 next-requires : tie.Need-next-requires Inv-loop μ-loop
 next-requires c κs =
-    let e = c .before .before .before .before .before .before in
-    let t = e .before .before .before .before .before in
-    let l = t .before .before .before .before in
-    let s = l .before .before .before .before .before in
-    fill-step (plain-room (s .pre)) (row-here t) (l .loop .inv .0)
+    let t = c .before .before .before .before .before .before .before .before .before .before .before in
+    let i = t .before .before .before in
+    let l = i .before in
+    plain-step (l .before .before .before .before .before .pre) (i .loop-test .taken) (l .loop .inv .1) (bit-here t)
 
 loop-less : tie.Need-loop-less Inv-loop μ-loop
 loop-less c = omega arith
@@ -85,9 +85,9 @@ loop-again c =
     let t = e .before .before .before .before .before in
     let i = t .before .before .before in
     let l = i .before in
-    let s = l .before .before .before .before .before in
-    let b = passed-bit (i .loop-test .taken) (l .loop .inv .1) (bit-here t) in (
-      fill-more (plain-room (s .pre)) (row-here t) (l .loop .inv .0) b refl (e .enter-bit .ensures) (c .next .ensures) (e .enter-bit .kept .0),
+    let s = l .before .before .before .before .before in (
+      plain-more (s .pre) (i .loop-test .taken) (l .loop .inv .1) (bit-here t) (l .loop .inv .0) (c .next .ensures) (e .enter-bit .kept .0)
+          (e .enter-bit .ensures),
       passed-digit (i .loop-test .taken) (l .loop .inv .1) (bit-here t) (c .next .ensures),
     )
 

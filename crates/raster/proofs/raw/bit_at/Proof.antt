@@ -1,21 +1,12 @@
 -- `bit_at` meets its contract: a shift right is a division by a power of two, and what is left of it modulo 2 is the bit.
-use native.Mathlib.Omega.{arith}
-use Rattle.mapfile.specs.Raster.{packedBit}
+use mathlib.Core.Path.{refl}
 use borrow.Author.Needs.{needs}
+use Rattle.raster.specs.RasterParts.{rowBit}
 use Rattle.raster.proofs.raw.bit_at.Statement.{statement}
 use Rattle.raster.proofs.raw.bit_at.Tie as tie
 
-row-bytes-requires : tie.Need-row-bytes-requires
-row-bytes-requires c κs = search needs
-
-mul-i : tie.Need-mul-i
-mul-i c = rw (c .row-bytes .ensures) (omega arith)
-
-add-i : tie.Need-add-i
-add-i c = rw (c .row-bytes .ensures) (omega arith)
-
 shared-slice-read-result : tie.Need-shared-slice-read-result
-shared-slice-read-result c = rw (c .before .row-bytes .ensures) (c .before .before .before .pre .there)
+shared-slice-read-result c = search needs
 
 sub-result : tie.Need-sub-result
 sub-result c = search needs
@@ -27,18 +18,8 @@ shr-result : tie.Need-shr-result
 shr-result c = search needs
 
 returns : tie.Need-returns
-unfolding packedBit
-returns c = rw (c .before .row-bytes .ensures)
+unfolding rowBit
+returns c = refl
 
 pub bit-at-spec : {M : Type 1} → statement M
-bit-at-spec =
-    tie.close
-    (tie.spec
-    row-bytes-requires
-    mul-i
-    add-i
-    shared-slice-read-result
-    sub-result
-    cast-result
-    shr-result
-    returns)
+bit-at-spec = tie.close (tie.spec shared-slice-read-result sub-result cast-result shr-result returns)

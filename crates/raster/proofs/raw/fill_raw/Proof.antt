@@ -1,75 +1,75 @@
--- `fill_raw` meets its contract: the loop keeps FillingAt over the packed bits, and each turn passes one crossing more.
-use mathlib.Core.Path.{refl}
-use Prim.Native.Nat.{_*_, _-_}
+-- `fill_raw` meets its contract: the loop keeps FillingAt over the packed bits, and each turn passes one row more.
+use Prim.Native.Nat.{_*_, _-_, _≤_}
 use native.Mathlib.Omega.{arith}
+use borrow.Author.Needs.{needs}
+use lib.ListN.{length}
 use Rattle.mapfile.specs.RasterWorking.{rawBits}
-use Rattle.raster.specs.RasterParts.{placeOf}
-use Rattle.raster.proofs.Filling.{FillingAt, fill-start, fill-may, fill-step, fill-more}
-use Rattle.raster.proofs.FillingRaw.{raw-room, raw-look, raw-bit, raw-fills}
-use Rattle.raster.proofs.Rows.{place-below}
+use Rattle.raster.proofs.PackedRows.{slice-within}
+use Rattle.raster.proofs.Filling.{FillingAt}
+use Rattle.raster.proofs.FillingRaw.{raw-bits, raw-start, raw-may, raw-more, raw-fills}
 use Rattle.raster.proofs.raw.fill_raw.Statement.{statement}
 use Rattle.raster.proofs.raw.fill_raw.Tie as tie
 
 abbrev Inv-loop : tie.InvT-loop
-Inv-loop body w h ids₀ xs₀ ys₀ n₀ p₀ ids xs ys n p = FillingAt w h (rawBits w h body) ids₀ xs₀ ys₀ n p ids xs ys
+Inv-loop body w h ids₀ xs₀ ys₀ bytes n₀ k₀ ids xs ys n k = FillingAt w h (rawBits w h body) ids₀ xs₀ ys₀ n (k * w) ids xs ys
 
 abbrev μ-loop : tie.MeasureT-loop
-μ-loop body w h ids₀ xs₀ ys₀ n₀ p₀ ids xs ys n p = h * w - placeOf w p
+μ-loop body w h ids₀ xs₀ ys₀ bytes n₀ k₀ ids xs ys n k = h - k
+
+row-bytes-requires : tie.Need-row-bytes-requires Inv-loop μ-loop
+row-bytes-requires c κs = search needs
+
+-- Where a row starts there are bytes of it.
+start-within : (c : tie.In-loop Inv-loop μ-loop)
+    → let b = c .before .before in
+    c .before .loop .k * b .row-bytes .result ≤ length (b .before .before .before .before .before .args .body .now)
+start-within c =
+    let b = c .before .before in
+    slice-within (raw-bits (b .before .before .before .before .before .pre)) (c .before .loop .k) (c .loop-test .taken) (b .row-bytes .ensures)
 
 loop-holds : tie.Need-loop-holds Inv-loop μ-loop
-loop-holds c = fill-start (raw-room (c .before .before .before .before .pre))
+loop-holds c = raw-start (c .before .before .before .before .before .pre)
 
-bit-at-requires : tie.Need-bit-at-requires Inv-loop μ-loop
-bit-at-requires c κs =
-    let l = c .before .before in
-    raw-look (l .before .before .before .before .before .pre) (c .if1 .taken) (l .loop .inv .in-x)
+mul-at : tie.Need-mul-at Inv-loop μ-loop
+mul-at c = omega (arith, start-within c)
 
-add-enter-bit : tie.Need-add-enter-bit Inv-loop μ-loop
-add-enter-bit c = omega (arith, c .before .before .before .before .before .if1 .taken)
+sub-fill-row : tie.Need-sub-fill-row Inv-loop μ-loop
+sub-fill-row c = start-within c
 
-sub-enter-bit : tie.Need-sub-enter-bit Inv-loop μ-loop
-sub-enter-bit c = omega (arith, c .before .before .before .before .before .if1 .taken)
+part-fill-row-start : tie.Need-part-fill-row-start Inv-loop μ-loop
+part-fill-row-start c = start-within c
 
-enter-bit-requires : tie.Need-enter-bit-requires Inv-loop μ-loop
-enter-bit-requires c κs =
-    let b = c .before .before .before .before in
-    let l = b .before .before .before in
-    let s = l .before .before .before .before .before in
-    let t = b .before .if1 .taken in
-    fill-may (raw-room (s .pre)) t (l .loop .inv) _ _ (raw-bit (s .pre) t (l .loop .inv .in-x) (b .bit-at .ensures)) (omega (arith, t, s .pre .sides .most-h))
+part-fill-row-end : tie.Need-part-fill-row-end Inv-loop μ-loop
+part-fill-row-end c = search needs
 
-next-requires : tie.Need-next-requires Inv-loop μ-loop
-next-requires c κs =
-    let e = c .before .before .before .before .before .before in
-    let t = e .before .before .before .before .before .before in
-    let l = t .before .before in
-    let s = l .before .before .before .before .before in
-    fill-step (raw-room (s .pre)) (t .if1 .taken) (l .loop .inv)
+add-fill-row : tie.Need-add-fill-row Inv-loop μ-loop
+add-fill-row c = omega arith
+
+sub-fill-row-2 : tie.Need-sub-fill-row-2 Inv-loop μ-loop
+sub-fill-row-2 c = omega arith
+
+fill-row-requires : tie.Need-fill-row-requires Inv-loop μ-loop
+fill-row-requires c κs =
+    let t = c .before .before .before .before in
+    let b = t .before .before in
+    raw-may (b .before .before .before .before .before .pre) (t .loop-test .taken) (b .row-bytes .ensures) (t .before .loop .inv)
+
+add-k : tie.Need-add-k Inv-loop μ-loop
+add-k c = omega arith
 
 loop-less : tie.Need-loop-less Inv-loop μ-loop
-loop-less c =
-    let e = c .before .before .before .before .before .before .before in
-    let t = e .before .before .before .before .before .before in
-    let l = t .before .before in
-    let a = l .before .before .before .before .before .args in
-    omega (arith, c .next .ensures .next, place-below (a .w) (a .h) (l .loop .p .row) (l .loop .p .x) (t .if1 .taken) (l .loop .inv .in-x))
+loop-less c = omega arith
 
 loop-again : tie.Need-loop-again Inv-loop μ-loop
 loop-again c =
-    let e = c .before .before .before .before .before .before .before in
-    let b = e .before .before .before .before .before in
-    let t = b .before in
-    let l = t .before .before in
-    let s = l .before .before .before .before .before in
-    fill-more (raw-room (s .pre)) (t .if1 .taken) (l .loop .inv)
-    (raw-bit (s .pre) (t .if1 .taken) (l .loop .inv .in-x) (b .bit-at .ensures))
-    refl
-    (e .enter-bit .ensures)
-    (c .next .ensures)
-    (e .enter-bit .kept .0)
+    let e = c .before .before .before .before .before .before in
+    let t = e .before .before .before .before .before in
+    let b = t .before .before in
+    raw-more (b .before .before .before .before .before .pre) (t .loop-test .taken) (b .row-bytes .ensures) (t .before .loop .inv)
+    (e .fill-row .ensures) (e .fill-row .kept .1 .1 .1 .1 .0)
 
 same-length : tie.Need-same-length Inv-loop μ-loop
-same-length c = c .before .before .loop .inv .size
+same-length c = c .before .loop .inv .size
 
 same-length-2 : tie.Need-same-length-2 Inv-loop μ-loop
 same-length-2 c = omega arith
@@ -78,7 +78,7 @@ same-length-3 : tie.Need-same-length-3 Inv-loop μ-loop
 same-length-3 c = omega arith
 
 returns : tie.Need-returns Inv-loop μ-loop
-returns c = raw-fills (c .before .before .before .before .before .before .before .pre) (c .if1 .left) (c .before .before .loop .inv)
+returns c = raw-fills (c .before .before .before .before .before .before .before .pre) (c .loop-test .left) (c .before .loop .inv)
 
 pub fill-raw-spec : {M : Type 1} → statement M
 fill-raw-spec =
@@ -86,12 +86,16 @@ fill-raw-spec =
     (tie.spec
     Inv-loop
     μ-loop
+    row-bytes-requires
     loop-holds
-    bit-at-requires
-    add-enter-bit
-    sub-enter-bit
-    enter-bit-requires
-    next-requires
+    mul-at
+    sub-fill-row
+    part-fill-row-start
+    part-fill-row-end
+    add-fill-row
+    sub-fill-row-2
+    fill-row-requires
+    add-k
     loop-less
     loop-again
     same-length

@@ -14,11 +14,21 @@ row-bytes-requires c κs = search needs
 mul-size : tie.Need-mul-size
 mul-size c = rw (c .row-bytes .ensures) (omega (arith, rows-few (c .before .before .pre)))
 
+faulty-requires : tie.Need-faulty-requires
+faulty-requires c κs = tt
+
 returns : tie.Need-returns
-returns c = raw-judged-short _ _ _ _ (rw (c .before .row-bytes .ensures) at (c .if1 .taken))
+returns c =
+    let t = c .before in
+    rw (c .faulty .ensures) (raw-judged-short _ _ _ (rw (t .before .row-bytes .ensures) at (t .if1 .taken)))
+
+faulty-requires-2 : tie.Need-faulty-requires-2
+faulty-requires-2 c κs = tt
 
 returns-2 : tie.Need-returns-2
-returns-2 c = raw-judged-long _ _ _ _ (rw (c .before .before .row-bytes .ensures) at (c .if2 .taken))
+returns-2 c =
+    let t = c .before in
+    rw (c .faulty2 .ensures) (raw-judged-long _ _ _ (rw (t .before .before .row-bytes .ensures) at (t .if2 .taken)))
 
 -- Neither too short nor too long.
 size-is : (h : ℕ) {r n b : ℕ} → r ≡ b → h * r ≤ n → n ≤ h * r → n ≡ h * b
@@ -36,4 +46,13 @@ returns-3 c =
 
 pub judge-raw-spec : {M : Type 1} → statement M
 judge-raw-spec =
-    tie.close (tie.spec row-bytes-requires mul-size returns returns-2 count-raw-requires returns-3)
+    tie.close
+    (tie.spec
+    row-bytes-requires
+    mul-size
+    faulty-requires
+    returns
+    faulty-requires-2
+    returns-2
+    count-raw-requires
+    returns-3)
