@@ -22,7 +22,7 @@ use Rattle.raster.specs.RasterParts.{
   zero-byte,
   one-byte,
 }
-use Rattle.raster.specs.declared.Place.{Place}
+use Rattle.raster.specs.declared.plain.Place.{Place}
 use Rattle.raster.proofs.Rows.{row-below, take-next}
 use Rattle.header.specs.Left.{left-cons}
 use Rattle.raster.proofs.Entering.{bit-entered, count-one, one-more}

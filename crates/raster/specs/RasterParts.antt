@@ -10,7 +10,7 @@ use Rattle.markers.specs.Promise.{marker, listOf, Parallel}
 use Rattle.mapfile.specs.Raster.{rowBytes}
 use Rattle.mapfile.specs.File.{Format, plain, raw, Raster, RasterFault, markersFrom, markersOf}
 use Rattle.mapfile.specs.MarkerLaws.{ones}
-use Rattle.raster.specs.declared.Place.{Place}
+use Rattle.raster.specs.declared.plain.Place.{Place}
 use Rattle.raster.specs.declared.Judged.{Judged}
 
 -- Where a crossing of the raster stands in raster order.

@@ -1,25 +1,12 @@
 // A map file's raster, P1 or P4. It is gone over twice: judged first, with its rocks counted, and then its rocks are entered. Here stands what both
-// formats share: what judging finds, and the marker of one bit; and a crossing's place in raster order.
+// formats share: what judging finds, and the marker of one bit.
 mod plain;
 mod raw;
 
 ghost use mathlib.Core.Path.{_≡_};
 ghost use Prim.Native.Nat.{ℕ};
 ghost use Rattle.field.specs.Map.{Sides};
-ghost use Rattle.raster.specs.RasterParts.{MayStep, Steps, withFault, JudgedAs, MayEnterBit, EntersBit, MayFill, Fills, formatOf};
-
-// Document 01's refusal numbers of a raster.
-pub(crate) const BAD_HEADER: u8 = 13;
-
-pub(crate) const SHORT_RASTER: u8 = 14;
-
-pub(crate) const LONG_RASTER: u8 = 15;
-
-// A crossing of the raster: its column, and its row counted from the north.
-pub(crate) struct Place {
-    pub x: usize,
-    pub row: usize,
-}
+ghost use Rattle.raster.specs.RasterParts.{withFault, JudgedAs, MayEnterBit, EntersBit, MayFill, Fills, formatOf};
 
 // What judging a raster finds: the number of its first fault, or 0; and the rocks met.
 pub struct Judged {
@@ -32,23 +19,6 @@ pub(crate) fn faulty(fault: u8) -> Judged
     ensures { λ r. ⌜ r ≡ withFault fault ⌝ }
 {
     Judged { fault, rocks: 0 }
-}
-
-// The next crossing in raster order: from the west, row by row.
-pub(crate) fn next(p: Place, w: usize) -> Place
-    requires { ⌜ MayStep w p ⌝ }
-    ensures { λ r. ⌜ Steps w p r ⌝ }
-{
-    if p.x + 1 < w {
-        return Place {
-            x: p.x + 1,
-            row: p.row,
-        };
-    }
-    Place {
-        x: 0,
-        row: p.row + 1,
-    }
 }
 
 // Enters the marker of a crossing whose bit is 1 in slot n, with the next id; a bit of 0 enters none. Hands back how many are entered.

@@ -1,12 +1,10 @@
 // The P1 raster: "digits 0 and 1, blanks allowed anywhere before, between and after".
-use super::BAD_HEADER;
 use super::Judged;
-use super::LONG_RASTER;
-use super::Place;
-use super::SHORT_RASTER;
 use super::enter_bit;
 use super::faulty;
-use super::next;
+use field::refusals::BAD_HEADER;
+use field::refusals::LONG_RASTER;
+use field::refusals::SHORT_RASTER;
 use header::is_blank;
 ghost use mathlib.Core.Path.{_≡_};
 ghost use mathlib.Core.Bool.{true};
@@ -14,7 +12,30 @@ ghost use mathlib.Core.Logic.{_↔_};
 ghost use Prim.Native.Nat.{ℕ};
 ghost use Rattle.field.specs.Map.{Sides};
 ghost use Rattle.mapfile.specs.File.{plain};
-ghost use Rattle.raster.specs.RasterParts.{JudgedAs, MayFill, Fills, BitByte};
+ghost use Rattle.raster.specs.RasterParts.{MayStep, Steps, JudgedAs, MayFill, Fills, BitByte};
+
+// A crossing of the raster: its column, and its row counted from the north.
+struct Place {
+    pub x: usize,
+    pub row: usize,
+}
+
+// The next crossing in raster order: from the west, row by row.
+fn next(p: Place, w: usize) -> Place
+    requires { ⌜ MayStep w p ⌝ }
+    ensures { λ r. ⌜ Steps w p r ⌝ }
+{
+    if p.x + 1 < w {
+        return Place {
+            x: p.x + 1,
+            row: p.row,
+        };
+    }
+    Place {
+        x: 0,
+        row: p.row + 1,
+    }
+}
 
 // Whether the byte is a digit 0 or 1, in one test: b'0' is 48 and b'1' is 49, and no other byte gives 24 when it is halved.
 fn is_bit(b: u8) -> bool

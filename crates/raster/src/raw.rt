@@ -1,9 +1,9 @@
 // The P4 raster: "each row is packed eight crossings to a byte, highest bit westmost, 1 a rock".
 use super::Judged;
-use super::LONG_RASTER;
-use super::SHORT_RASTER;
 use super::enter_bit;
 use super::faulty;
+use field::refusals::LONG_RASTER;
+use field::refusals::SHORT_RASTER;
 ghost use mathlib.Core.Path.{_≡_};
 ghost use Prim.Native.Nat.{ℕ, _/_, _<_, _≤_};
 ghost use lib.ListN.{length};

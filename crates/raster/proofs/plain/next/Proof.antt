@@ -2,8 +2,8 @@
 use native.Mathlib.Omega.{arith}
 use Rattle.field.specs.Limits.{side-is}
 use borrow.Author.Needs.{needs}
-use Rattle.raster.proofs.next.Statement.{statement}
-use Rattle.raster.proofs.next.Tie as tie
+use Rattle.raster.proofs.plain.next.Statement.{statement}
+use Rattle.raster.proofs.plain.next.Tie as tie
 
 add-if1 : tie.Need-add-if1
 add-if1 c = search needs
