@@ -71,16 +71,17 @@ pub record DistancesCall (list : List Marker) (count w h x y : ℕ) (labels labe
   pub done : r .refusal ≡ 0 → Distances (ClosedBy list count w h) x y (r .four)
 
 -- distances of the map: into four lent sheets
-pub record MeasureCall (list : List Marker) (count w h : ℕ) (labels e s f n labels′ e′ s′ f′ n′ : List ℕ) (r : ℕ) : Type 0 where
-  pub given : Gives (Rules.measure-table list count w h labels e s f n) r
+pub record MeasureCall (list : List Marker) (count w h : ℕ) (labels east south west north labels′ east′ south′ west′ north′ : List ℕ)
+    (r : ℕ) : Type 0 where
+  pub given : Gives (Rules.measure-table list count w h labels east south west north) r
   pub labels-after : LabelsAfter list count w h r labels labels′
-  pub refused : ¬ (r ≡ 0) → (e′ ≡ e) × (s′ ≡ s) × (f′ ≡ f) × (n′ ≡ n)
+  pub refused : ¬ (r ≡ 0) → (east′ ≡ east) × (south′ ≡ south) × (west′ ≡ west) × (north′ ≡ north)
   pub done :
       r ≡ 0
-      → DistanceSheet w h (ClosedBy list count w h) eastward e′
-      × DistanceSheet w h (ClosedBy list count w h) southward s′
-      × DistanceSheet w h (ClosedBy list count w h) westward f′
-      × DistanceSheet w h (ClosedBy list count w h) northward n′
+      → DistanceSheet w h (ClosedBy list count w h) eastward east′
+      × DistanceSheet w h (ClosedBy list count w h) southward south′
+      × DistanceSheet w h (ClosedBy list count w h) westward west′
+      × DistanceSheet w h (ClosedBy list count w h) northward north′
 
 -- assured: yes or no; no at a refusal
 pub record AssuredCall (list : List Marker) (count w h hx hy x y : ℕ) (labels labels′ : List ℕ) (r : Assurance) : Type 0 where

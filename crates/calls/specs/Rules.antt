@@ -119,7 +119,7 @@ module _ (list : List Marker) (count w h : ℕ) where
   distances-table x y labels = asking-table (labels ∷ []) (place-rule x y ∷ [])
 
   abbrev pub measure-table : List ℕ → List ℕ → List ℕ → List ℕ → List ℕ → List Rule
-  measure-table labels e s f n = asking-table (labels ∷ e ∷ s ∷ f ∷ n ∷ []) []
+  measure-table labels east south west north = asking-table (labels ∷ east ∷ south ∷ west ∷ north ∷ []) []
 
   abbrev pub assured-table : ℕ → ℕ → ℕ → ℕ → List ℕ → List Rule
   assured-table hx hy x y labels = asking-table (labels ∷ []) (places-rule hx hy x y ∷ ends-rule hx hy x y ∷ [])

@@ -1,11 +1,11 @@
 -- The program has one text for a file: a number is printed in one way, a line is made of its numbers, and a picture's signs are those of the labels.
-use mathlib.Core.Path.{_≡_, sym, _∙_}
-use mathlib.Core.List.{List, []}
-use Prim.Native.Nat.{ℕ, _+_, _*_, _-_, _<_}
+use mathlib.Core.Path.{_≡_, sym, ap, ap₂, _∙_}
+use mathlib.Core.List.{List, [], _++_}
+use Prim.Native.Nat.{ℕ, _+_, _*_, _-_, _<_, _≤_}
 use native.Mathlib.Omega.{arith}
 use native.Mathlib.Decide.{decLt}
-use lib.ListN.{getD}
-use lib.Seq.{ext-getD}
+use lib.ListN.{length, getD, take, drop, take-append-drop}
+use lib.Seq.{ext-getD, length-take-le}
 use Rattle.field.specs.Workings.Sheet.{Crossing, crossing}
 use Rattle.field.specs.Workings.Labelling.{label-one}
 use Rattle.field.specs.Workings.Counting.{count-one}
@@ -151,3 +151,20 @@ charted-one {file} {text} {other} (shown w h rocks shut groups bits line picture
           picture-is = v′;
           is = f;
         }
+
+-- And so one length and one output: the text at the front, and what stood past it.
+pub chart-one : (out : List ℕ) {file a b : List ℕ} {r q : ℕ} → r ≤ length a → q ≤ length b → Charted file (take r a) → Charted file (take q b)
+    → drop r a ≡ drop r out → drop q b ≡ drop q out → (r ≡ q) × (a ≡ b)
+chart-one out {file} {a} {b} {r} {q} l m t u d e = (same, whole)
+  where
+    text : take r a ≡ take q b
+    text = charted-one t u
+
+    same : r ≡ q
+    same = sym (length-take-le r a l) ∙ ap length text ∙ length-take-le q b m
+
+    whole : a ≡ b
+    whole =
+        sym (take-append-drop r a)
+        ∙ ap₂ (λ (f g : List ℕ). f ++ g) text (d ∙ ap (λ (n : ℕ). drop n out) same ∙ sym e)
+        ∙ take-append-drop q b

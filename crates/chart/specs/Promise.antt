@@ -14,6 +14,10 @@ use Rattle.mapfile.specs.Written.{Plain}
 unfoldable pub most-bytes : ℕ
 most-bytes = 65536
 
+-- The longest text has room in so many bytes.
+abbrev pub room : ℕ
+room = 4608
+
 -- A number as it is printed: decimal digits with no leading zeros, and 0 as one digit.
 pub data Printed (v : ℕ) (l : List ℕ) : Type 0 where
   nought : v ≡ 0 → l ≡ 48 ∷ [] → Printed v l

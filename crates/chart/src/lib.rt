@@ -5,9 +5,12 @@ use field::MOST_MARKERS;
 ghost use Prim.Native.Nat.{_≤_};
 ghost use lib.ListN.{length, take, drop};
 ghost use mathlib.Core.Path.{_≡_};
-ghost use Rattle.chart.specs.Promise.{Charted};
+ghost use Rattle.chart.specs.Promise.{room, Charted};
 ghost use Rattle.chart.specs.Parts.{Put, Puts, Short, PrintedIn, NumberThen, NumberRoom, FirstLine, LineRoom, RefusalLine, RefusalRoom, RowRoom, RowsRoom, MarkersShown, MapRoom, FileRoom};
 ghost use Rattle.chart.specs.Drawing.{signOf, rowOf, pictureOf};
+
+// Room for the longest text: the first line, and SIDE rows of SIDE signs, each with its LF.
+pub const ROOM: usize = 4608;
 
 // "A program takes at most 65,536 input bytes".
 const MOST_BYTES: usize = 65536;
@@ -146,8 +149,8 @@ fn put_file(out: &mut [u8], src: &[u8]) -> usize
 }
 
 // Writes the text for a map file to the front of the output, and hands back its length. The rest of the output stays.
-pub fn chart(src: &[u8], out: &mut [u8; 4608]) -> usize
-    ensures text { λ r. ⌜ (r ≤ 4608) × Charted (now (src .entry)) (take r (now (out .exit))) ⌝ }
+pub fn chart(src: &[u8], out: &mut [u8; ROOM]) -> usize
+    ensures text { λ r. ⌜ (r ≤ room) × Charted (now (src .entry)) (take r (now (out .exit))) ⌝ }
     ensures rest { λ r. ⌜ drop r (now (out .exit)) ≡ drop r (now (out .entry)) ⌝ }
 {
     if MOST_BYTES < src.len() {

@@ -120,7 +120,7 @@ pub fn list_refusal(w: usize, h: usize, formed: bool) -> u8
     SUCCESS
 }
 
-// Whether the marker in an id's place bears it.
+// 5 where the marker that stands in an id's place has that id, and 6 where it has another.
 pub fn bears(m: Marker, id: u16) -> u8
     ensures { λ r. ⌜ FoundAt (m .id) id r ⌝ }
 {

@@ -1,15 +1,14 @@
 // The labelling program: reads a map file from standard input and prints the map's labels, or why the file is refused.
+use chart::ROOM;
 ghost use Prim.Native.Nat.{_≤_};
-
-// Room for the longest text: the first line, and 64 rows of 64 signs, each with its LF.
-const ROOM: usize = 4608;
+ghost use Rattle.chart.specs.Promise.{room};
 
 // "A program takes at most 65,536 input bytes": so many and one more, so that a longer input is told from the longest.
 const INPUT: usize = 65537;
 
 // Prints the text that stands at the front of the output. A program has no exit status to tell a closed output by, so it says it on standard error.
 fn print(out: &[u8; ROOM], end: usize)
-    requires { ⌜ end ≤ 4608 ⌝ }
+    requires { ⌜ end ≤ room ⌝ }
 {
     let whole: &[u8] = out;
     if !io::write_all(libc::STDOUT_FILENO, &whole[..end]) {

@@ -87,7 +87,8 @@ pub extern "C" fn bodkin_clear(
 }
 
 // The first part of every asking: the lowest of refusals 1 to 4, and where there is none, 0, and the rocks stamped on the label sheet. `others` tells
-// whether every other lent sheet is of the map's size; (x, y) and (a, b) are the places asked.
+// whether every other lent sheet is of the map's size; (x, y) and (a, b) are the places asked; a call that
+// asks no place names (0, 0) twice, which is on every map.
 fn prepare(
     list: &[Marker],
     count: usize,

@@ -38,12 +38,6 @@ marker-typed 𝓤 H A W m is = LL.lawful T.the-type T′.the-laws 𝓤 H A W .ty
 pub id-fits : (m : Marker) → IsMarker m → m .id < 2 ^ 16
 id-fits m is = LL.owed T.the-type T′.the-laws m (mach m ∷ []) is .0 .1
 
-pub x-fits : (m : Marker) → IsMarker m → m .x < 2 ^ 16
-x-fits m is = LL.owed T.the-type T′.the-laws m (mach m ∷ []) is .1 .0 .1
-
-pub y-fits : (m : Marker) → IsMarker m → m .y < 2 ^ 16
-y-fits m is = LL.owed T.the-type T′.the-laws m (mach m ∷ []) is .1 .1 .0 .1
-
 pub blank-fits : IsMarker blank
 blank-fits = LL.owes T.the-type T′.the-laws blank ((refl, lit< tt), ((refl, lit< tt), ((refl, lit< tt), tt)))
 
