@@ -31,7 +31,7 @@ use Rattle.answers.specs.declared.Drove.{Drove}
 use Rattle.exchange.specs.declared.ReadMap.{ReadMap}
 use Rattle.exchange.specs.declared.WroteMap.{WroteMap}
 
--- "refusals 1 to 7 ... change no lent byte. At 8, 9, 10 and 11 a lent label sheet holds the labels."
+-- "refusals 1 to 7 ... change no lent byte. At 8, 9, 10 and 11 a lent label sheet holds the labels; ..."
 abbrev pub Early : ℕ → Type 0
 Early n = (1 ≤ n) × (n ≤ no-slot)
 

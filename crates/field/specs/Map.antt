@@ -12,7 +12,7 @@ side = 64
 unfoldable pub most-markers : ℕ
 most-markers = 4096
 
--- "... or 255 if there is none. 255 is no distance: the largest is 63."
+-- "... or 255 if there is none." "255 is no distance: the largest is 63."
 unfoldable pub no-distance : ℕ
 no-distance = 255
 

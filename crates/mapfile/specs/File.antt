@@ -1,4 +1,4 @@
--- "These bytes are a map of this width and height with these rocks", and which refusal a file gets otherwise.
+-- When bytes are a map of this width and height with these rocks, and which refusal a file gets otherwise.
 use mathlib.Core.Path.{_≡_}
 use mathlib.Core.List.{List, [], _∷_, _++_}
 use mathlib.Core.Logic.{_⊎_}
