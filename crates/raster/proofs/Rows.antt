@@ -6,8 +6,8 @@ use native.Mathlib.Omega.{arith}
 use native.Mathlib.Nat.{mul-le-mul-right}
 use native.Mathlib.Decide.{decLt}
 use native.Mathlib.Numerals.{add-one}
-use lib.ListN.{length, getD, take}
-use lib.Seq.{take-suc}
+use lib.ListN.{length, getD, take, set}
+use lib.Seq.{take-suc, take-suc-set}
 use Rattle.field.specs.Workings.Sheet.{number-lt}
 
 -- A crossing of the raster is in one of its rows, and its place is below their number.
@@ -24,3 +24,7 @@ place-below w h row x p q = number-lt w h x row (record { in-x = q; in-y = p })
 -- One element more of a list.
 pub take-next : (l : List ℕ) (k : ℕ) → k < length l → take (k + 1) l ≡ take k l ++ getD l k 0 ∷ []
 take-next l k p = rw add-one (take-suc l k 0 p)
+
+-- A byte written behind what is passed.
+pub take-set : (l : List ℕ) (k v : ℕ) → k < length l → take (k + 1) (set l k v) ≡ take k l ++ v ∷ []
+take-set l k v b = rw (add-one k) (take-suc-set l k v b)
