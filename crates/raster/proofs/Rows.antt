@@ -2,22 +2,12 @@
 use mathlib.Core.Path.{_≡_}
 use mathlib.Core.List.{List, [], _∷_, _++_}
 use Prim.Native.Nat.{ℕ, _+_, _*_, _<_}
-use native.Mathlib.Omega.{arith}
-use native.Mathlib.Nat.{mul-le-mul-right}
-use native.Mathlib.Decide.{decLt}
 use native.Mathlib.Numerals.{add-one}
 use lib.ListN.{length, getD, take, set}
 use lib.Seq.{take-suc, take-suc-set}
 use Rattle.field.specs.Workings.Sheet.{number-lt}
 
--- A crossing of the raster is in one of its rows, and its place is below their number.
-pub row-below : (w h row x : ℕ) → row * w + x < h * w → row < h
-row-below w h row x l = go (decLt row h)
-  where
-    go : Dec (row < h) → row < h
-    go (yes p) = p
-    go (no p) = absurd (omega (arith, mul-le-mul-right {m = h} {n = row} w (omega arith)))
-
+-- A crossing of one of the rows has a place below their number.
 pub place-below : (w h row x : ℕ) → row < h → x < w → row * w + x < h * w
 place-below w h row x p q = number-lt w h x row (record { in-x = q; in-y = p })
 
