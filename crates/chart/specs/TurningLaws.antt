@@ -19,7 +19,7 @@ module _ {w h : ℕ} {bits sheet : List ℕ} (m : MayTurn w h bits sheet) where
   pub row-whole : (r : ℕ) → r < h → r * w + w ≤ length bits
   row-whole r l = omega (arith, piece-end r h w l, m .whole)
 
-  pub row-length : (y : ℕ) → length (rowBits bits w h y) ≡ w
+  row-length : (y : ℕ) → length (rowBits bits w h y) ≡ w
   unfolding rowBits
   row-length y =
       let r = h - (y + 1) in
