@@ -27,6 +27,3 @@ listOf-slot (i ∷ is) [] ys p k = absurd (omega (arith, p .as-xs))
 listOf-slot (i ∷ is) (x ∷ xs) [] p k = absurd (omega (arith, p .as-ys))
 listOf-slot (i ∷ is) (x ∷ xs) (y ∷ ys) p zero = refl
 listOf-slot (i ∷ is) (x ∷ xs) (y ∷ ys) p (suc k) = listOf-slot is xs ys (tails p) k
-
-pub marker-same : {i j x a y b : ℕ} → i ≡ j → x ≡ a → y ≡ b → marker i x y ≡ marker j a b
-marker-same p q r = λ t. record { id = p t; x = q t; y = r t }
