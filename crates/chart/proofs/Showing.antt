@@ -39,7 +39,7 @@ module _ (w h : ℕ) {R S : ℕ → ℕ → Type 0} (a : Alike (RockOn R w h) (R
   picture-alike : {l : List ℕ} → Picture R w h l → Picture S w h l
   picture-alike p = record { size = p .size; sign = λ r x u v. let s = p .sign r x u v in (s .0, label-alike (s .1), s .2); end = p .end }
 
-  pub shown-alike : {text : List ℕ} → Shown R w h text → Shown S w h text
+  shown-alike : {text : List ℕ} → Shown R w h text → Shown S w h text
   shown-alike t =
       record {
         rocks = t .rocks;

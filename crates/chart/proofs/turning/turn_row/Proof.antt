@@ -1,12 +1,10 @@
 -- `turning::turn_row` meets its contract: after x turns the first x bits stand at the front of the part.
-use Prim.Native.Nat.{ℕ, _+_, _-_, _<_, _≤_}
+use Prim.Native.Nat.{ℕ, _-_, _≤_}
 use native.Mathlib.Omega.{arith}
-use native.Mathlib.Numerals.{add-one}
-use mathlib.Core.Path.{_≡_, refl, sym, ap, _∙_}
-use mathlib.Core.List.{List, [], _∷_, _++_}
-use lib.ListN.{length, getD, take}
-use lib.Seq.{take-suc}
+use mathlib.Core.Path.{_≡_, refl, ap, _∙_}
+use lib.ListN.{getD, take}
 use Rattle.writer.proofs.Filling.{Filled, filled-none, filled-as, filled-length, filled-all, filled-byte}
+use Rattle.chart.proofs.Putting.{take-more}
 use Rattle.chart.proofs.turning.turn_row.Statement.{statement}
 use Rattle.chart.proofs.turning.turn_row.Tie as tie
 
@@ -33,17 +31,13 @@ add-x c = omega arith
 loop-less : tie.Need-loop-less Inv-loop μ-loop
 loop-less c = omega arith
 
--- One bit more.
-next : (l : List ℕ) (x : ℕ) → x < length l → take x l ++ getD l x 0 ∷ [] ≡ take (x + 1) l
-next l x h = sym (ap (λ (n : ℕ). take n l) (add-one x) ∙ take-suc l x 0 h)
-
 loop-again : tie.Need-loop-again Inv-loop μ-loop
 loop-again c =
     let a = c .before .before .before .args in
     let p = c .before .before .before .pre in
     let l = c .before .before .loop in
     let put = filled-byte (take (l .x) (a .bits .now)) (l .x) (a .part .now) (l .part) (l .inv .1) (getD (a .bits .now) (l .x) 0) (omega (arith, p .room)) in
-    (omega arith, filled-as _ _ _ _ (a .part .now) _ put (next (a .bits .now) (l .x) (omega (arith, p .whole))) refl)
+    (omega arith, filled-as _ _ _ _ (a .part .now) _ put (take-more (a .bits .now) (l .x) (omega (arith, p .whole))) refl)
 
 same-length : tie.Need-same-length Inv-loop μ-loop
 same-length c =
