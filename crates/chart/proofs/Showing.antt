@@ -1,21 +1,23 @@
 -- A sheet stamped and labelled gives the text of the map, and the text depends on which crossings are rocks and not on how that is said.
 use mathlib.Core.Path.{_≡_, refl}
 use mathlib.Core.List.{List, _++_}
-use Prim.Native.Nat.{ℕ, _≤_}
+use Prim.Native.Nat.{ℕ, _*_, _≤_}
 use native.Mathlib.Omega.{arith}
+use lib.ListN.{take}
 use Rattle.field.specs.Map.{side, Sides}
 use Rattle.field.specs.Labels.{RockOn, Label, is-open, is-rock, is-shut, Count}
 use Rattle.field.specs.Workings.Sheet.{Draws}
 use Rattle.field.specs.Workings.SameLaws.{Alike, open-same, closed-same, shut-same, count-alike, groups-same}
 use Rattle.labels.specs.declared.Labelled.{Labelled}
 use Rattle.labels.specs.Promise.{Stones, Labels}
-use Rattle.markers.specs.Promise.{StampedWith}
 use Rattle.field.specs.Limits.{crossings-few}
 use Rattle.chart.specs.Promise.{Picture}
-use Rattle.chart.specs.Parts.{Put, Puts, Short, FirstLine, Shown, MarkersShown}
+use Rattle.chart.specs.Parts.{Put, Puts, Short, FirstLine, Shown, BitsShown}
 use Rattle.chart.specs.Drawing.{pictureOf}
 use Rattle.chart.specs.DrawingLaws.{picture-drawn}
 use Rattle.chart.specs.CountLaws.{count-few}
+use Rattle.chart.specs.Turning.{TurnedBy}
+use Rattle.chart.specs.TurningLaws.{turned-draws}
 use Rattle.chart.proofs.Putting.{put-front, front-put, filled-more}
 
 -- A side is a short number, and so is a number of crossings.
@@ -37,7 +39,7 @@ module _ (w h : ℕ) {R S : ℕ → ℕ → Type 0} (a : Alike (RockOn R w h) (R
   picture-alike : {l : List ℕ} → Picture R w h l → Picture S w h l
   picture-alike p = record { size = p .size; sign = λ r x u v. let s = p .sign r x u v in (s .0, label-alike (s .1), s .2); end = p .end }
 
-  pub shown-alike : {text : List ℕ} → Shown R w h text → Shown S w h text
+  shown-alike : {text : List ℕ} → Shown R w h text → Shown S w h text
   shown-alike t =
       record {
         rocks = t .rocks;
@@ -76,11 +78,11 @@ module _ {w h : ℕ} {s t : List ℕ} {r : Labelled} (l : Labels w h s t r) wher
       }
 
   -- First line and picture in the output are the text of the map.
-  pub map-put : {xs ys out mid rows after : List ℕ} {count start end : ℕ} → StampedWith w h xs ys count s → Puts (FirstLine w h r) out 0 mid start
-      → rows ≡ pictureOf t w h → Put mid start rows after end → Puts (MarkersShown w h xs ys count) out 0 after end
-  map-put {xs} {ys} {out} {mid} {rows} {after} {count} {start} {end} stamped p e q =
+  pub map-put : (bits : List ℕ) {out mid rows after : List ℕ} {start end : ℕ} → TurnedBy w h (take (h * w) bits) s → Puts (FirstLine w h r) out 0 mid start
+      → rows ≡ pictureOf t w h → Put mid start rows after end → Puts (BitsShown w h bits) out 0 after end
+  map-put bits {out} {mid} {rows} {after} {start} {end} turned p e q =
       record {
         piece = p .piece ++ pictureOf t w h;
-        right = record { shown = λ ids parallel. shown-alike w h (stones-alike (stamped .rocks ids parallel)) (stones-shown (p .right)) };
+        right = shown-alike w h (stones-alike (turned-draws turned)) (stones-shown (p .right));
         put = front-put (filled-more (p .piece) (pictureOf t w h) start end out mid after (put-front (p .put)) (rw e at q));
       }

@@ -6,3 +6,5 @@ pub mod Parts
 pub mod Drawing
 pub mod DrawingLaws
 pub mod CountLaws
+pub mod Turning
+pub mod TurningLaws

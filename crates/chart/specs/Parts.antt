@@ -4,13 +4,13 @@ use mathlib.Core.List.{List, [], _∷_, _++_}
 use Prim.Native.Nat.{ℕ, _+_, _*_, _<_, _≤_}
 use lib.ListN.{length, take, drop}
 use Rattle.field.specs.Map.{side, Sides}
-use Rattle.field.specs.Labels.{Closed, Rock, RockOn, Shut, Count}
+use Rattle.field.specs.Labels.{Closed, RockOn, Shut, Count}
 use Rattle.field.specs.Groups.{Groups}
 use Rattle.labels.specs.declared.Labelled.{Labelled}
-use Rattle.markers.specs.List.{inUse}
-use Rattle.markers.specs.Promise.{listOf, Parallel, MayStamp}
+use Rattle.mapfile.specs.File.{FileRock}
 use Rattle.writer.specs.Digits.{digitsOf}
 use Rattle.chart.specs.Promise.{most-bytes, refused, Printed, Line, Picture}
+use Rattle.chart.specs.Turning.{MayTurn}
 
 -- A piece stands in the output from a place on, up to its end. All else is as it was.
 pub record Put (out : List ℕ) (at : ℕ) (piece after : List ℕ) (end : ℕ) : Type 0 where
@@ -93,13 +93,13 @@ pub record Shown (R : ℕ → ℕ → Type 0) (w h : ℕ) (text : List ℕ) : Ty
   pub picture-is : Picture R w h picture
   pub is : text ≡ line ++ picture
 
--- The text of a map whose rocks are the markers in use, whatever ids they bear.
-pub record MarkersShown (w h : ℕ) (xs ys : List ℕ) (count : ℕ) (text : List ℕ) : Type 0 where
-  pub shown : (ids : List ℕ) → Parallel ids xs ys → Shown (Rock (inUse (listOf ids xs ys) count)) w h text
+-- The text of the map whose bits the first of these are, one for each crossing.
+abbrev pub BitsShown : ℕ → ℕ → List ℕ → List ℕ → Type 0
+BitsShown w h bits text = Shown (FileRock w h (take (h * w) bits)) w h text
 
--- The markers can be stamped on the sheet, and there is room for the text of any map of this size.
-pub record MapRoom (w h : ℕ) (xs ys : List ℕ) (count : ℕ) (sheet out : List ℕ) : Type 0 where
-  pub stamp : MayStamp w h xs ys count sheet
+-- The bits can be stamped on the sheet, and there is room for the text of any map of this size.
+pub record MapRoom (w h : ℕ) (bits sheet out : List ℕ) : Type 0 where
+  pub turn : MayTurn w h bits sheet
   pub room : 25 + h * (w + 1) ≤ length out
 
 -- The file is no longer than the program takes, and there is room for the text of the largest map.

@@ -2,12 +2,15 @@
 // and hands back where the next begins.
 use field::MOST_CROSSINGS;
 use field::MOST_MARKERS;
+use turning::turn;
 ghost use Prim.Native.Nat.{_≤_};
 ghost use lib.ListN.{length, take, drop};
 ghost use mathlib.Core.Path.{_≡_};
 ghost use Rattle.chart.specs.Promise.{room, Charted};
-ghost use Rattle.chart.specs.Parts.{Put, Puts, Short, PrintedIn, NumberThen, NumberRoom, FirstLine, LineRoom, RefusalLine, RefusalRoom, RowRoom, RowsRoom, MarkersShown, MapRoom, FileRoom};
+ghost use Rattle.chart.specs.Parts.{Put, Puts, Short, PrintedIn, NumberThen, NumberRoom, FirstLine, LineRoom, RefusalLine, RefusalRoom, RowRoom, RowsRoom, BitsShown, MapRoom, FileRoom};
 ghost use Rattle.chart.specs.Drawing.{signOf, rowOf, pictureOf};
+
+mod turning; // turning.rt: a raster's bits on a sheet
 
 // Room for the longest text: the first line, and SIDE rows of SIDE signs, each with its LF.
 pub const ROOM: usize = 4608;
@@ -88,20 +91,12 @@ fn put_rows(out: &mut [u8], sheet: &[u8], w: usize, h: usize)
     }
 }
 
-// Labels the map on a lent sheet of its size, and writes its text: the first line, then the rows.
-fn put_map(
-    out: &mut [u8],
-    sheet: &mut [u8],
-    xs: &[u16],
-    ys: &[u16],
-    count: usize,
-    w: usize,
-    h: usize,
-) -> usize
-    requires { ⌜ MapRoom w h (now xs) (now ys) count (now sheet) (now out) ⌝ }
-    ensures { λ r. ⌜ Puts (MarkersShown w h (now (xs .entry)) (now (ys .entry)) count) (now (out .entry)) 0 (now (out .exit)) r ⌝ }
+// Stamps a raster's bits on a lent sheet of the map's size, labels it, and writes the map's text: the first line, then the rows.
+fn put_map(out: &mut [u8], sheet: &mut [u8], bits: &[u8], w: usize, h: usize) -> usize
+    requires { ⌜ MapRoom w h (now bits) (now sheet) (now out) ⌝ }
+    ensures { λ r. ⌜ Puts (BitsShown w h (now (bits .entry))) (now (out .entry)) 0 (now (out .exit)) r ⌝ }
 {
-    markers::stamp(xs, ys, count, w, h, sheet);
+    turn(bits, w, h, sheet);
     let found = labels::label(sheet, w, h);
     let start = put_line(out, w, h, found);
     let end = start + h * (w + 1);
@@ -134,15 +129,13 @@ fn put_file(out: &mut [u8], src: &[u8]) -> usize
     requires { ⌜ FileRoom (now src) (now out) ⌝ }
     ensures { λ r. ⌜ Puts (Charted (now (src .entry))) (now (out .entry)) 0 (now (out .exit)) r ⌝ }
 {
-    let mut ids = [0u16; MOST_MARKERS];
-    let mut xs = [0u16; MOST_MARKERS];
-    let mut ys = [0u16; MOST_MARKERS];
-    let reading = reader::read(src, &mut ids, &mut xs, &mut ys);
+    let mut bits = [0u8; MOST_CROSSINGS];
+    let reading = reader::read(src, MOST_MARKERS, &mut bits);
     match reading {
         reader::Reading::Map(w, h, count) => {
             let mut sheet = [0u8; MOST_CROSSINGS];
             let size = h * w;
-            put_map(out, &mut sheet[..size], &xs, &ys, count, w, h)
+            put_map(out, &mut sheet[..size], &bits, w, h)
         }
         reader::Reading::Refused(n) => put_refusal(out, n as usize),
     }

@@ -6,7 +6,9 @@
 --     Entering, Clearing     there is one list after: entered-some, entered-one, cleared-some, cleared-one; Making has what both make it with
 --     Times                  every other marker stands there as often as before: entered-other, entered-itself, cleared-other, cleared-itself
 --     Rocks                  which crossings are rocks after: rock-enter, rock-clear, rock-clear-other
---     Slices, Promises       the list that three parallel slices make, and that stamping it has one outcome: stamped-one
+--     Slices                 the list that three parallel slices make
+--     Stamping               a sheet being stamped, marker by marker, and that a stamped sheet is settled by its rocks: stamped-one
+--     Placing                where an id stands or belongs, searched by halves
 pub mod Rising
 pub mod Moves
 pub mod Formed
@@ -17,6 +19,5 @@ pub mod Clearing
 pub mod Times
 pub mod Rocks
 pub mod Slices
-pub mod Promises
 pub mod Stamping
 pub mod Placing

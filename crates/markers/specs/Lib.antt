@@ -1,4 +1,4 @@
--- The marker list: what a list lent with a count is, what entering and clearing make of it, and what stamping promises. Laws hold the theorems.
+-- The marker list: what a list lent with a count is, and what entering and clearing make of it. Laws hold the theorems.
 pub mod List
 pub mod Reached
 pub mod Promise

@@ -1,13 +1,11 @@
 -- `put_bytes` meets its contract: after i turns the first i bytes stand at the front.
-use Prim.Native.Nat.{ℕ, _+_, _-_, _<_, _≤_}
+use Prim.Native.Nat.{ℕ, _-_, _<_, _≤_}
 use native.Mathlib.Omega.{arith}
-use native.Mathlib.Numerals.{add-one}
-use mathlib.Core.Path.{_≡_, refl, sym, ap, _∙_}
-use mathlib.Core.List.{List, [], _∷_, _++_}
+use mathlib.Core.Path.{_≡_, refl, ap, _∙_}
 use lib.ListN.{length, getD, take}
-use lib.Seq.{take-suc, take-length}
+use lib.Seq.{take-length}
 use Rattle.writer.proofs.Filling.{Filled, filled-none, filled-as, filled-length, filled-byte}
-use Rattle.chart.proofs.Putting.{front-put}
+use Rattle.chart.proofs.Putting.{take-more, front-put}
 use Rattle.chart.proofs.put_bytes.Statement.{statement}
 use Rattle.chart.proofs.put_bytes.Tie as tie
 
@@ -16,10 +14,6 @@ Inv-loop out₀ bytes i₀ i-end out i = (i ≤ length bytes) × Filled (take i 
 
 abbrev μ-loop : tie.MeasureT-loop
 μ-loop out₀ bytes i₀ i-end out i = length bytes - i
-
--- One byte more.
-next : (l : List ℕ) (i : ℕ) → i < length l → take i l ++ getD l i 0 ∷ [] ≡ take (i + 1) l
-next l i h = sym (ap (λ (n : ℕ). take n l) (add-one i) ∙ take-suc l i 0 h)
 
 loop-holds : tie.Need-loop-holds Inv-loop μ-loop
 loop-holds c = (omega arith, filled-none _)
@@ -46,7 +40,7 @@ loop-again c =
     let room : l .i < length (a .out .now) = omega (arith, c .before .before .before .pre) in
     let v = getD (a .bytes .now) (l .i) 0 in
     let put = filled-byte (take (l .i) (a .bytes .now)) (l .i) (a .out .now) (l .out) (l .inv .1) v room in
-    (omega arith, filled-as _ _ _ _ (a .out .now) _ put (next (a .bytes .now) (l .i) here) refl)
+    (omega arith, filled-as _ _ _ _ (a .out .now) _ put (take-more (a .bytes .now) (l .i) here) refl)
 
 same-length : tie.Need-same-length Inv-loop μ-loop
 same-length c =

@@ -1,39 +1,40 @@
 -- `put_file` meets its contract: the reader refuses the file, and its number is told; or the map that it finds is shown.
 use native.Mathlib.Omega.{arith}
-use mathlib.Core.Path.{refl, sym}
+use mathlib.Core.Path.{sym}
 use lib.Seq.{length-take-le}
 use Rattle.field.specs.Map.{side, Sides}
-use Rattle.field.specs.Limits.{crossings-few}
+use Rattle.field.specs.Limits.{marker-slots, crossings-few, most-crossings-is}
+use Rattle.reader.specs.Promise.{Taken}
 use Rattle.chart.specs.Parts.{Short}
-use Rattle.chart.proofs.Reading.{reads-map, reads-refused, turned-fault, fault-text, taken-stamp, map-text, text-few}
+use Rattle.chart.proofs.Reading.{reads-map, reads-fault, fault-text, taken-turn, map-text, text-few}
 use borrow.Author.Needs.{needs}
 use Rattle.chart.proofs.put_file.Statement.{statement}
 use Rattle.chart.proofs.put_file.Tie as tie
 
--- Where the function began, and where the reader has answered with a map.
+-- Where the function began, and where the reader has answered: with a map, and with a refusal.
 abbrev start : tie.After-read → tie.Start
-start c = c .before .before .before .before .before .before
+start c = c .before .before .before .before
 
 abbrev answered : tie.After-reading → tie.After-read
-answered c = c .before .before .before .before .before
+answered c = c .before .before .before
 
 abbrev refused : tie.After-reading2 → tie.After-read
-refused c = c .before .before .before .before .before
+refused c = c .before .before .before
+
+-- The map that was read.
+taken : (c : tie.After-reading) →
+    let m = c .reading .given .0 in
+    Taken (start (answered c) .args .src .now) marker-slots (m .0) (m .1 .0) (m .1 .1 .0) (answered c .read .last .1 .1 .0)
+taken c = reads-map (answered c .read .ensures) (c .reading .given .1)
 
 sides : (c : tie.After-reading) → Sides (c .reading .given .0 .0) (c .reading .given .0 .1 .0)
-sides c = reads-map (answered c .read .ensures .1) (c .reading .given .1) .map .sides
+sides c = taken c .map .sides
 
 slice-aggregate-read : tie.Need-slice-aggregate-read
 slice-aggregate-read c = search needs
 
-slice-aggregate-read-2 : tie.Need-slice-aggregate-read-2
-slice-aggregate-read-2 c = search needs
-
-slice-aggregate-read-3 : tie.Need-slice-aggregate-read-3
-slice-aggregate-read-3 c = search needs
-
 read-requires : tie.Need-read-requires
-read-requires c κs = search needs
+read-requires c κs = omega (arith, most-crossings-is)
 
 enum-known-reading : tie.Need-enum-known-reading
 enum-known-reading c = search needs
@@ -50,16 +51,11 @@ slice-aggregate-put-map c = sym (length-take-le _ _ (crossings-few (sides (c .be
 slice-aggregate-put-map-2 : tie.Need-slice-aggregate-put-map-2
 slice-aggregate-put-map-2 c = search needs
 
-slice-aggregate-put-map-3 : tie.Need-slice-aggregate-put-map-3
-slice-aggregate-put-map-3 c = search needs
-
 put-map-requires : tie.Need-put-map-requires
 put-map-requires c κs =
-    let g = c .before .before .before .before .before in
-    let r = answered g .read in
-    let taken = reads-map (r .ensures .1) (g .reading .given .1) in
+    let g = c .before .before .before .before in
     record {
-      stamp = taken-stamp (r .last .1 .0) (r .last .1 .1 .0) (r .last .1 .1 .1 .0) (r .ensures .0) taken _ (length-take-le _ _ (crossings-few (sides g)));
+      turn = taken-turn (taken g) _ (length-take-le _ _ (crossings-few (sides g)));
       room = text-few (sides g) (start (answered g) .pre .room);
     }
 
@@ -79,10 +75,8 @@ same-length c = search needs
 returns : tie.Need-returns
 returns c =
     let m = c .before .before .before in
-    let g = m .before .before .before .before .before .before in
-    let r = answered g .read in
-    let taken = reads-map (r .ensures .1) (g .reading .given .1) in
-    map-text (r .last .1 .0) (r .last .1 .1 .0) (r .last .1 .1 .1 .0) (r .ensures .0) taken (start (answered g) .pre .limit) (m .put-map .ensures)
+    let g = m .before .before .before .before .before in
+    map-text (taken g) (start (answered g) .pre .limit) (m .put-map .ensures)
 
 same-length-2 : tie.Need-same-length-2
 same-length-2 c = search needs
@@ -92,22 +86,19 @@ returns-2 c =
     let m = c .before .before in
     let g = m .before .before .before in
     let r = refused g .read in
-    fault-text (start (refused g) .pre .limit) (turned-fault _ _ _ (record { as-xs = refl; as-ys = refl }) (omega arith) (reads-refused (r .ensures .1) (g .reading2 .given .1))) (m .put-refusal .ensures)
+    fault-text (start (refused g) .pre .limit) (reads-fault (r .last .1 .1 .0) (omega arith) (r .ensures) (g .reading2 .given .1)) (m .put-refusal .ensures)
 
 pub put-file-spec : {M : Type 1} → statement M
 put-file-spec =
     tie.close
     (tie.spec
     slice-aggregate-read
-    slice-aggregate-read-2
-    slice-aggregate-read-3
     read-requires
     enum-known-reading
     mul-size
     array-borrow-prefix-sheet
     slice-aggregate-put-map
     slice-aggregate-put-map-2
-    slice-aggregate-put-map-3
     put-map-requires
     enum-known-reading-2
     cast-put-refusal

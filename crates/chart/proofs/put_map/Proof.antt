@@ -10,11 +10,11 @@ use Rattle.chart.proofs.put_map.Statement.{statement}
 use Rattle.chart.proofs.put_map.Tie as tie
 
 -- The way back from each call to the one before, and to where the function began.
-abbrev start : tie.After-stamp → tie.Start
-start c = c .before .before .before .before .before .before
+abbrev start : tie.After-turn → tie.Start
+start c = c .before .before .before .before .before
 
-abbrev stamped : tie.After-label → tie.After-stamp
-stamped c = c .before .before .before .before
+abbrev turned : tie.After-label → tie.After-turn
+turned c = c .before .before .before .before
 
 abbrev labelled : tie.After-put-line → tie.After-label
 labelled c = c .before .before .before .before
@@ -22,8 +22,8 @@ labelled c = c .before .before .before .before
 abbrev lined : tie.After-put-rows → tie.After-put-line
 lined c = c .before .before .before .before .before
 
-stamp-requires : tie.Need-stamp-requires
-stamp-requires c κs = search needs
+turn-requires : tie.Need-turn-requires
+turn-requires c κs = search needs
 
 label-requires : tie.Need-label-requires
 label-requires c κs = search needs
@@ -31,9 +31,9 @@ label-requires c κs = search needs
 put-line-requires : tie.Need-put-line-requires
 put-line-requires c κs =
     let l = c .before .before .before in
-    let a = start (stamped l) .args in
-    let p = start (stamped l) .pre in
-    let sides = p .stamp .sides in
+    let a = start (turned l) .args in
+    let p = start (turned l) .pre in
+    let sides = p .turn .sides in
     record {
       width = side-short (a .w) (sides .most-w);
       height = side-short (a .h) (sides .most-h);
@@ -45,7 +45,7 @@ put-line-requires c κs =
 
 add-end : tie.Need-add-end
 unfolding side
-add-end c = omega (arith, start (stamped (labelled (c .before .before))) .pre .stamp .sides .most-w)
+add-end c = omega (arith, start (turned (labelled (c .before .before))) .pre .turn .sides .most-w)
 
 mul-end : tie.Need-mul-end
 mul-end c = search needs
@@ -76,19 +76,19 @@ returns c =
     let rows = c .before .before .put-rows in
     let line = lined (c .before .before) .put-line in
     let l = labelled (lined (c .before .before)) in
-    let a = start (stamped l) .args in
+    let a = start (turned l) .args in
     let end = line .result + a .h * (a .w + 1) in
     let reach : line .result ≤ 25 = omega (arith, line .ensures .put .size, line .ensures .right .few) in
-    let room : end ≤ length (line .last .0) = omega (arith, reach, start (stamped l) .pre .room, line .kept .0) in
+    let room : end ≤ length (line .last .0) = omega (arith, reach, start (turned l) .pre .room, line .kept .0) in
     let after : line .result ≤ end = omega arith in
-    map-put (l .label .ensures) (stamped l .stamp .ensures) (line .ensures) (rows .ensures)
+    map-put (l .label .ensures) (a .bits .now) (turned l .turn .ensures) (line .ensures) (rows .ensures)
     (part-put (line .last .0) (line .result) end (rows .last .0) after room (rows .kept .0))
 
 pub put-map-spec : {M : Type 1} → statement M
 put-map-spec =
     tie.close
     (tie.spec
-    stamp-requires
+    turn-requires
     label-requires
     put-line-requires
     add-end

@@ -4,7 +4,6 @@ use mathlib.Core.List.{List, [], _∷_}
 use Prim.Native.Nat.{ℕ, zero, suc}
 use native.Mathlib.Omega.{arith}
 use lib.ListN.{length, getD}
-use Rattle.field.specs.declared.Marker.{Marker}
 use Rattle.markers.specs.List.{slot}
 use Rattle.markers.specs.Promise.{marker, listOf, Parallel}
 
@@ -28,15 +27,3 @@ listOf-slot (i ∷ is) [] ys p k = absurd (omega (arith, p .as-xs))
 listOf-slot (i ∷ is) (x ∷ xs) [] p k = absurd (omega (arith, p .as-ys))
 listOf-slot (i ∷ is) (x ∷ xs) (y ∷ ys) p zero = refl
 listOf-slot (i ∷ is) (x ∷ xs) (y ∷ ys) p (suc k) = listOf-slot is xs ys (tails p) k
-
-pub listOf-id : (ids xs ys : List ℕ) → Parallel ids xs ys → (k : ℕ) → slot (listOf ids xs ys) k .id ≡ getD ids k 0
-listOf-id ids xs ys p k = ap (λ (m : Marker). m .id) (listOf-slot ids xs ys p k)
-
-pub listOf-x : (ids xs ys : List ℕ) → Parallel ids xs ys → (k : ℕ) → slot (listOf ids xs ys) k .x ≡ getD xs k 0
-listOf-x ids xs ys p k = ap (λ (m : Marker). m .x) (listOf-slot ids xs ys p k)
-
-pub listOf-y : (ids xs ys : List ℕ) → Parallel ids xs ys → (k : ℕ) → slot (listOf ids xs ys) k .y ≡ getD ys k 0
-listOf-y ids xs ys p k = ap (λ (m : Marker). m .y) (listOf-slot ids xs ys p k)
-
-pub marker-same : {i j x a y b : ℕ} → i ≡ j → x ≡ a → y ≡ b → marker i x y ≡ marker j a b
-marker-same p q r = λ t. record { id = p t; x = q t; y = r t }

@@ -9,7 +9,7 @@ use native.Mathlib.Decide.{decLt, ℕ-discrete}
 use lib.ListN.{length, getD, set, length-set}
 use lib.Seq.{getD-set-same, getD-set-other}
 use Rattle.field.specs.Map.{On, number, at}
-use Rattle.field.specs.Workings.Sheet.{number-lt}
+use Rattle.field.specs.Workings.Sheet.{Marked, Draws, number-lt, sheet-same}
 use Rattle.sheets.specs.Promise.{Wiped}
 
 -- Two crossings of the map with one number are one crossing.
@@ -85,3 +85,19 @@ stamping-more {w} {h} {k} {x} {y} {sheet} o s =
         before : (i : ℕ) → i < k + 1 → Dec (i ≡ k) → ¬ (number w (x i) (y i) ≡ n) → i < k
         before i l (yes d) f = absurd (f (ap (λ (t : ℕ). number w (x t) (y t)) d))
         before i l (no d) f = omega arith
+
+-- A sheet stamped with 0 and 1 is settled by its rocks: two that draw the same crossings are equal.
+pub stamped-one : (w h : ℕ) (C : ℕ → ℕ → Type 0) {s t : List ℕ} → length s ≡ h * w → length t ≡ h * w → ((i : ℕ) → getD s i 0 ≤ 1)
+    → ((i : ℕ) → getD t i 0 ≤ 1) → Draws w h C s → Draws w h C t → s ≡ t
+stamped-one w h C {s} {t} p q a b d e = sheet-same w h s t p q (λ x y o. go x y o (decLt 0 (at s w x y)) (decLt 0 (at t w x y)))
+  where
+    over : (x y : ℕ) → Marked s w h x y → 0 < at t w x y
+    over x y m = e .complete x y (d .sound x y m) .mark
+
+    back : (x y : ℕ) → Marked t w h x y → 0 < at s w x y
+    back x y m = d .complete x y (e .sound x y m) .mark
+
+    go : (x y : ℕ) → On w h x y → Dec (0 < at s w x y) → Dec (0 < at t w x y) → at s w x y ≡ at t w x y
+    go x y o (yes l) m = omega (arith, a (number w x y), b (number w x y), over x y (record { on = o; mark = l }))
+    go x y o (no l) (yes m) = absurd (l (back x y (record { on = o; mark = m })))
+    go x y o (no l) (no m) = omega arith

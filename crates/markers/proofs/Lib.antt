@@ -1,2 +1,0 @@
--- What the loop of `stamp` keeps true, as laws of lists.
-mod Stamping
