@@ -4,8 +4,8 @@
 use mathlib.Core.Path.{_≡_}
 use mathlib.Core.List.{List, _++_}
 use mathlib.Core.Logic.{_⊎_}
-use Prim.Native.Nat.{ℕ, _*_, _≤_}
-use lib.ListN.{length, take, drop}
+use Prim.Native.Nat.{ℕ, _*_, _<_, _≤_}
+use lib.ListN.{length, getD, take, drop}
 use Rattle.field.specs.declared.Marker.{Marker}
 use Rattle.field.specs.Map.{Sides, side, most-markers}
 use Rattle.field.specs.Refusals.{success, no-slot, shared-crossing}
@@ -75,3 +75,23 @@ pub data ReadFirst (file : List ℕ) (lent : ℕ) (markers : List Marker) (r : R
 pub record ReadsMarkers (file : List ℕ) (lent : ℕ) (ids xs ys : List ℕ) (r : ReadMap) : Type 0 where
   pub parallel : Parallel ids xs ys
   pub first : ReadFirst file lent (listOf ids xs ys) r
+
+-- What the next rock asks: there is one at `from` or after it.
+pub record RockAhead (bits : List ℕ) (from : ℕ) : Type 0 where
+  pub place : ℕ
+  pub ahead : from ≤ place
+  pub below : place < length bits
+  pub rock : ¬ (getD bits place 0 ≡ 0)
+
+-- The first rock at `from` or after it: no crossing before it is one.
+pub record NextRock (bits : List ℕ) (from r : ℕ) : Type 0 where
+  pub ahead : from ≤ r
+  pub below : r < length bits
+  pub rock : ¬ (getD bits r 0 ≡ 0)
+  pub first : (i : ℕ) → from ≤ i → i < r → getD bits i 0 ≡ 0
+
+-- What a rock's marker asks: its place is on a map within the limits, and there are fewer rocks before it than may be in use.
+pub record MayMark (w h place k : ℕ) : Type 0 where
+  pub sides : Sides w h
+  pub on : place < h * w
+  pub few : k < most-markers

@@ -7,12 +7,13 @@ use field::refusals::SHORT_OUTPUT;
 use reader::Reading;
 use writer::Wrote;
 ghost use mathlib.Core.Path.{_≡_};
-ghost use Prim.Native.Nat.{_<_};
+ghost use Prim.Native.Nat.{_+_, _<_};
 ghost use lib.ListN.{length};
 ghost use Rattle.field.specs.Workings.MarkCount.{marks};
 ghost use Rattle.markers.specs.List.{slot};
 ghost use Rattle.markers.specs.Promise.{listOf, Parallel};
-ghost use Rattle.exchange.specs.Promise.{Area, MayWrite, WriteRest, MarkerRoom, ReadsMarkers};
+ghost use Rattle.mapfile.specs.MarkerLaws.{markerAt};
+ghost use Rattle.exchange.specs.Promise.{Area, MayWrite, WriteRest, MarkerRoom, ReadsMarkers, RockAhead, NextRock, MayMark};
 
 // Width, height and number of markers of a map that was read, or the refusal.
 #[repr(C)]
@@ -135,5 +136,29 @@ pub fn marker_at(ids: &[u16], xs: &[u16], ys: &[u16], k: usize) -> Marker
         id: ids[k],
         x: xs[k],
         y: ys[k],
+    }
+}
+
+// The first rock at `from` or after it, in raster order.
+pub fn next_rock(bits: &[u8], from: usize) -> usize
+    requires { ⌜ RockAhead (now bits) from ⌝ }
+    ensures { λ r. ⌜ NextRock (now (bits .entry)) from r ⌝ }
+{
+    let mut i = from;
+    while bits[i] == 0 {
+        i += 1;
+    }
+    i
+}
+
+// The marker of the rock that stands at this place in raster order, the k-th of the file: ids rise from 1. "The first raster row is the northmost."
+pub fn marker_of(w: usize, h: usize, place: usize, k: usize) -> Marker
+    requires { ⌜ MayMark w h place k ⌝ }
+    ensures { λ r. ⌜ r ≡ markerAt w h (k + 1) place ⌝ }
+{
+    Marker {
+        id: (k + 1) as u16,
+        x: (place % w) as u16,
+        y: (h - (place / w + 1)) as u16,
     }
 }
