@@ -18,7 +18,7 @@ use Rattle.mapfile.specs.File.{markersOf, FileFault, NoSlot}
 use Rattle.mapfile.specs.FileLaws.{map-file-one}
 use Rattle.calls.specs.Exactly.{fault-number}
 use Rattle.exchange.specs.Promise.{ReadFirst, refused, found, ReadsMarkers}
-use Rattle.layer.specs.Files.{MayPut, putIn}
+use Rattle.layer.specs.Files.{MayPutSlices, putIn}
 use Rattle.calls.specs.Calls.{ReadCall}
 use Rattle.exchange.specs.declared.ReadMap.{ReadMap}
 
@@ -39,10 +39,10 @@ put-more list markers k l m =
 
 module _ {file : List ℕ} {list : List Marker} {ids xs ys : List ℕ} {r : ReadMap} (p : ReadsMarkers file (length list) ids xs ys r) where
   -- The second part may put as many as are counted.
-  pub may-put : most-markers ≤ length ids → MayPut list (r .count) ids xs ys
+  pub may-put : most-markers ≤ length ids → MayPutSlices list (r .count) ids xs ys
   may-put l = go (p .first)
     where
-      go : ReadFirst file (length list) (listOf ids xs ys) r → MayPut list (r .count) ids xs ys
+      go : ReadFirst file (length list) (listOf ids xs ys) r → MayPutSlices list (r .count) ids xs ys
       go (refused n f e) =
           let z : r .count ≡ 0 = ap (λ (a : ReadMap). a .count) e in
           record { parallel = p .parallel; had = omega arith; lent = omega arith }

@@ -60,10 +60,10 @@ use Rattle.exchange.proofs.read_markers as first
 use Rattle.exchange.proofs.read_markers.Symbol as first-def
 use Rattle.exchange.proofs.read_markers.Symbol.{name as #first}
 use Rattle.exchange.proofs.read_markers.Met as first-thm
-use Rattle.layer.proofs.files.put as put
-use Rattle.layer.proofs.files.put.Symbol as put-def
-use Rattle.layer.proofs.files.put.Symbol.{name as #put}
-use Rattle.layer.proofs.files.put.Met as put-thm
+use Rattle.layer.proofs.files.put_slices as put
+use Rattle.layer.proofs.files.put_slices.Symbol as put-def
+use Rattle.layer.proofs.files.put_slices.Symbol.{name as #put}
+use Rattle.layer.proofs.files.put_slices.Met as put-thm
 use Rattle.layer.proofs.files.bodkin_read.Key.{name as #this}
 use Rattle.layer.proofs.files.bodkin_read as this
 use Rattle.layer.proofs.files.bodkin_read.Statement as stated
@@ -239,4 +239,4 @@ bodkin-read-spec 𝓤 H 𝓜 𝓖 𝓡 =
     #this code.function (code.unfolded 𝓤 H 𝓜 𝓡)
     (read-meets 𝓤 H (𝓖 .A) (givenOf 𝓤 H 𝓜 𝓖) (𝓜 .mem) (𝓡 .run) (tablesOf 𝓤 H 𝓜 (tables 𝓤 H 𝓜 𝓡 code.env))
     (cited 𝓤 H (Promised 𝓤 H (𝓖 .A) first.ended (first.clauses 𝓤 H (𝓖 .A) (𝓜 .mem) (𝓡 .run))) 𝓜 𝓡 code.env #first first-def.routine code.calls-exchange·read-markers (first-thm.met 𝓤 H 𝓜 𝓖 𝓡))
-    (cited 𝓤 H (Promised 𝓤 H (𝓖 .A) put.ended (put.clauses 𝓤 H (𝓖 .A) (𝓜 .mem) (𝓡 .run))) 𝓜 𝓡 code.env #put put-def.routine code.calls-layer·files·put (put-thm.met 𝓤 H 𝓜 𝓖 𝓡)))
+    (cited 𝓤 H (Promised 𝓤 H (𝓖 .A) put.ended (put.clauses 𝓤 H (𝓖 .A) (𝓜 .mem) (𝓡 .run))) 𝓜 𝓡 code.env #put put-def.routine code.calls-layer·files·put-slices (put-thm.met 𝓤 H 𝓜 𝓖 𝓡)))
