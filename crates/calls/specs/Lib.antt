@@ -15,5 +15,6 @@ pub mod Agree
 pub mod Unread
 pub mod Demands
 pub mod Sharing
+pub mod ListRead
 pub mod RoundLaws
 pub mod RoundTrip

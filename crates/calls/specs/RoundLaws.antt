@@ -19,8 +19,8 @@ use Rattle.mapfile.specs.FileLaws.{fault-no-map}
 use Rattle.mapfile.specs.RockLaws.{raster-crossings, marker-on, markers-apart}
 use Rattle.mapfile.specs.Written.{Written}
 use Rattle.mapfile.specs.WrittenLaws.{written-map, ReadBack, read-written}
-use Rattle.reader.specs.Promise.{Taken}
-use Rattle.reader.specs.Entered
+use Rattle.calls.specs.ListRead as list-read
+use Rattle.calls.specs.ListRead.{ListRead}
 use Rattle.calls.specs.Rules
 use Rattle.calls.specs.Rules.{RocksOf, Shared}
 use Rattle.calls.specs.RuleLaws.{None, holds, gives-none, sides-hold, formed-holds}
@@ -50,7 +50,7 @@ module _ {file bits : List ℕ} {w h : ℕ} (m : MapFile file w h bits) where
 
 -- A reading that is not refused has taken a map whose rocks found a slot each.
 module _ {file : List ℕ} {list list′ : List Marker} {r : ReadMap} (c : ReadCall file list list′ r) (z : r .refusal ≡ 0) where
-  read-taken : Taken file list (r .width) (r .height) (r .count) list′
+  read-taken : ListRead file list (r .width) (r .height) (r .count) list′
   read-taken =
       let u = c .done z in
       record {
@@ -66,7 +66,7 @@ module _ {file : List ℕ} {list list′ : List Marker} {r : ReadMap} (c : ReadC
   read-sides = c .done z .1 .sides
 
   pub read-formed : WellFormed (r .width) (r .height) list′ (r .count)
-  read-formed = Entered.read-formed read-taken
+  read-formed = list-read.read-formed read-taken
 
   -- The markers read are those of the file, so no two of them share a crossing.
   pub read-apart : ¬ Shared list′ (r .count)
@@ -85,7 +85,7 @@ module _ {file : List ℕ} {list list′ : List Marker} {r : ReadMap} (c : ReadC
       })
     where
       same : (i : ℕ) → i < r .count → slot (markersOf (r .width) (r .height) (read-taken .bits)) i ≡ slot list′ i
-      same i l = ap (λ (m : List Marker). slot m i) (sym (Entered.read-markers read-taken)) ∙ getD-take (r .count) list′ i blank l
+      same i l = ap (λ (m : List Marker). slot m i) (sym (list-read.read-markers read-taken)) ∙ getD-take (r .count) list′ i blank l
 
 -- A writing that is not refused: the list is well formed, no two of its markers share a crossing, and the bytes written are the file.
 module _ {list : List Marker} {count w h : ℕ} {out out′ : List ℕ} {wrote : WroteMap} (c : WriteCall list count w h out out′ wrote)
@@ -149,4 +149,4 @@ module _ {list : List Marker} {count w h : ℕ} {out out′ : List ℕ} {wrote :
 
     -- The list then holds the map's markers.
     pub back-crossings : r .refusal ≡ 0 → (x y : ℕ) → RocksOf lent′ (r .count) x y ↔ RocksOf list count x y
-    back-crossings y a b = rw (Entered.read-markers (read-taken d y)) (back-rocks (read-taken d y .map) a b)
+    back-crossings y a b = rw (list-read.read-markers (read-taken d y)) (back-rocks (read-taken d y .map) a b)

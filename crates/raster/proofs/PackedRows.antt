@@ -1,5 +1,5 @@
 -- The bits of a packed row, column by column, and the packed rows of a raster: each is a part of the bytes, and its bits are the next of the map's.
-use mathlib.Core.Path.{_≡_, refl, ap, subst, _∙_}
+use mathlib.Core.Path.{_≡_, refl, ap, _∙_}
 use mathlib.Core.List.{List, [], _∷_, _++_, append-assoc, append-nil}
 use Prim.Native.Nat.{ℕ, zero, suc, _+_, _*_, _-_, _/_, _<_, _≤_}
 use native.Mathlib.Omega.{arith}
@@ -36,17 +36,6 @@ module _ (row : List ℕ) where
 
   pub row-ones-few : (x : ℕ) → ones (rowBits row x) ≤ x
   row-ones-few x = omega (arith, ones-le (rowBits row x), row-length x)
-
-  ones-rise : (x j : ℕ) → ones (rowBits row x) ≤ ones (rowBits row (x + j))
-  ones-rise x zero = rw (add-zero x) (omega arith)
-  ones-rise x (suc j) = rw (← add-one j, ← add-assoc x j 1) (omega (arith, ones-rise x j, row-ones (x + j)))
-
-  -- There are no more rocks in fewer columns.
-  pub row-ones-le : {x w : ℕ} → x ≤ w → ones (rowBits row x) ≤ ones (rowBits row w)
-  row-ones-le {x} {w} l = subst (λ (i : ℕ). ones (rowBits row x) ≤ ones (rowBits row i)) all (ones-rise x (w - x))
-    where
-      all : x + (w - x) ≡ w
-      all = omega arith
 
 module _ {w h : ℕ} {body bits : List ℕ} (r : RawRaster w h body bits) (k : ℕ) (l : k < h) where
   -- The part of the bytes from the k-th row on.

@@ -1,6 +1,5 @@
--- What the map reader promises, that its outcome is one, and what stands in the list after it.
+-- What the map reader promises, and that its outcome is one.
 pub mod Promise
 pub mod LettersParts
 pub mod ReadingParts
 pub mod Outcome
-pub mod Entered

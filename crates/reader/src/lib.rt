@@ -1,6 +1,5 @@
-// The map reader: PBM, plain P1 and raw P4, within document 01's bounds, into the marker list over parallel slices. It goes over the header once and
-// over the raster twice: first the raster is judged and its rocks are counted, and only when nothing is left to refuse are they entered. So a refusal
-// changes no slot.
+// The map reader: PBM, plain P1 and raw P4, within document 01's bounds, into lent bytes that hold a bit for each crossing. It goes over the file once, and
+// tells every refusal before anything of the caller's is touched.
 use field::MOST_MARKERS;
 use field::refusals::BAD_HEADER;
 use field::refusals::BAD_LETTERS;
@@ -11,13 +10,13 @@ use raster::Judged;
 ghost use mathlib.Core.Path.{_≡_};
 ghost use mathlib.Core.Bool.{true};
 ghost use mathlib.Core.Logic.{_↔_};
-ghost use Prim.Native.Nat.{ℕ};
-ghost use Rattle.field.specs.Map.{Sides};
-ghost use Rattle.markers.specs.Promise.{listOf, Parallel};
+ghost use Prim.Native.Nat.{ℕ, _*_, _≤_};
+ghost use lib.ListN.{length};
+ghost use Rattle.field.specs.Map.{side};
 ghost use Rattle.reader.specs.Promise.{Reads};
 ghost use Rattle.reader.specs.LettersParts.{SameTwo, LettersRead};
-ghost use Rattle.raster.specs.RasterParts.{formatOf};
-ghost use Rattle.reader.specs.ReadingParts.{HasRoom, RasterRefusal, MayReadRaster, RasterReads, MayReadMap};
+ghost use Rattle.raster.specs.RasterParts.{BitRoom, formatOf};
+ghost use Rattle.reader.specs.ReadingParts.{HasRoom, RasterRefusal, RasterReads, MayReadMap};
 
 // What reading a file finds: a map's width, height and number of rocks; or the number of the refusal.
 pub enum Reading {
@@ -74,7 +73,7 @@ fn has_room(rocks: usize, lent: usize) -> bool
     true
 }
 
-// The refusal of a raster that was judged, or 0: "at the first fault met 13, 14 or 15, then 7".
+// The refusal of a raster that was read, or 0: "at the first fault met 13, 14 or 15, then 7".
 fn refusal(judged: Judged, lent: usize) -> u8
     ensures { λ r. ⌜ RasterRefusal judged lent r ⌝ }
 {
@@ -89,34 +88,30 @@ fn refusal(judged: Judged, lent: usize) -> u8
     0
 }
 
-// Reads the raster. Its rocks are entered only when nothing is left to refuse.
+// Reads the raster, for a list of `lent` slots.
 fn read_raster(
     plain: bool,
     body: &[u8],
     w: usize,
     h: usize,
-    ids: &mut [u16],
-    xs: &mut [u16],
-    ys: &mut [u16],
+    lent: usize,
+    bits: &mut [u8],
 ) -> Reading
-    requires { ⌜ MayReadRaster w h (now ids) (now xs) (now ys) ⌝ }
-    ensures same { λ r. ⌜ Parallel (now (ids .exit)) (now (xs .exit)) (now (ys .exit)) ⌝ }
-    ensures read { λ r. ⌜ RasterReads (formatOf plain) w h (now (body .entry)) (listOf (now (ids .entry)) (now (xs .entry)) (now (ys .entry))) (listOf (now (ids .exit)) (now (xs .exit)) (now (ys .exit))) r ⌝ }
+    requires { ⌜ BitRoom w h (now bits) ⌝ }
+    ensures { λ r. ⌜ RasterReads (formatOf plain) w h (now (body .entry)) lent (now (bits .exit)) r ⌝ }
 {
-    let judged = raster::judge(plain, body, w, h);
-    let n = refusal(judged, ids.len());
+    let judged = raster::read(plain, body, w, h, bits);
+    let n = refusal(judged, lent);
     if n != 0 {
         return Reading::Refused(n);
     }
-    raster::fill(plain, body, w, h, ids, xs, ys);
     Reading::Map(w, h, judged.rocks)
 }
 
 // Reads what follows the letters of a format. "the raster begins right after that one blank byte".
-fn read_map(src: &[u8], plain: bool, ids: &mut [u16], xs: &mut [u16], ys: &mut [u16]) -> Reading
-    requires { ⌜ MayReadMap (formatOf plain) (now src) (now ids) (now xs) (now ys) ⌝ }
-    ensures same { λ r. ⌜ Parallel (now (ids .exit)) (now (xs .exit)) (now (ys .exit)) ⌝ }
-    ensures read { λ r. ⌜ Reads (now (src .entry)) (listOf (now (ids .entry)) (now (xs .entry)) (now (ys .entry))) (listOf (now (ids .exit)) (now (xs .exit)) (now (ys .exit))) r ⌝ }
+fn read_map(src: &[u8], plain: bool, lent: usize, bits: &mut [u8]) -> Reading
+    requires { ⌜ MayReadMap (formatOf plain) (now src) (now bits) ⌝ }
+    ensures { λ r. ⌜ Reads (now (src .entry)) lent (now (bits .exit)) r ⌝ }
 {
     let head = header::header(src, 2);
     let Head::Sides(w, h, at) = head else {
@@ -125,19 +120,18 @@ fn read_map(src: &[u8], plain: bool, ids: &mut [u16], xs: &mut [u16], ys: &mut [
     if !judging::sized(w, h) {
         return Reading::Refused(BAD_SIZE);
     }
-    read_raster(plain, &src[at..], w, h, ids, xs, ys)
+    read_raster(plain, &src[at..], w, h, lent, bits)
 }
 
-// Reads a map file. Its rocks become markers with ids 1, 2, 3 and on, in raster order, in the first slots; other slots stay.
-pub fn read(src: &[u8], ids: &mut [u16], xs: &mut [u16], ys: &mut [u16]) -> Reading
-    requires { ⌜ Parallel (now ids) (now xs) (now ys) ⌝ }
-    ensures same { λ r. ⌜ Parallel (now (ids .exit)) (now (xs .exit)) (now (ys .exit)) ⌝ }
-    ensures read { λ r. ⌜ Reads (now (src .entry)) (listOf (now (ids .entry)) (now (xs .entry)) (now (ys .entry))) (listOf (now (ids .exit)) (now (xs .exit)) (now (ys .exit))) r ⌝ }
+// Reads a map file, for a list of `lent` slots. Its bits go into lent bytes, in raster order; at a refusal these hold nothing of use.
+pub fn read(src: &[u8], lent: usize, bits: &mut [u8]) -> Reading
+    requires { ⌜ side * side ≤ length (now bits) ⌝ }
+    ensures { λ r. ⌜ Reads (now (src .entry)) lent (now (bits .exit)) r ⌝ }
 {
     let letters = first_two(src);
     match letters {
-        Letters::Plain => read_map(src, true, ids, xs, ys),
-        Letters::Raw => read_map(src, false, ids, xs, ys),
+        Letters::Plain => read_map(src, true, lent, bits),
+        Letters::Raw => read_map(src, false, lent, bits),
         Letters::Neither => Reading::Refused(BAD_LETTERS),
     }
 }

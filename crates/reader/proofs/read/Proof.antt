@@ -13,20 +13,18 @@ enum-told c = search needs
 
 read-map-requires : tie.Need-read-map-requires
 read-map-requires c κs =
-    let e = c .before .before .before in
+    let e = c .before in
     let k = e .before .before in
-    let s = k .before .before .before .before .before in
-    record { letters = letters-plain _ _ (k .first-two .ensures) (e .enum-told .given .1); parallel = s .pre }
+    record { letters = letters-plain _ _ (k .first-two .ensures) (e .enum-told .given .1); room = k .before .before .before .pre }
 
 enum-told-2 : tie.Need-enum-told-2
 enum-told-2 c = search needs
 
 read-map-requires-2 : tie.Need-read-map-requires-2
 read-map-requires-2 c κs =
-    let e = c .before .before .before in
+    let e = c .before in
     let k = e .before .before in
-    let s = k .before .before .before .before .before in
-    record { letters = letters-raw _ _ (k .first-two .ensures) (e .enum-told2 .given .1); parallel = s .pre }
+    record { letters = letters-raw _ _ (k .first-two .ensures) (e .enum-told2 .given .1); room = k .before .before .before .pre }
 
 enum-told-3 : tie.Need-enum-told-3
 enum-told-3 c = search needs
@@ -34,23 +32,11 @@ enum-told-3 c = search needs
 same-length : tie.Need-same-length
 same-length c = search needs
 
-same-length-2 : tie.Need-same-length-2
-same-length-2 c = search needs
-
-same-length-3 : tie.Need-same-length-3
-same-length-3 c = search needs
-
 returns : tie.Need-returns
 returns c = search needs
 
-same-length-4 : tie.Need-same-length-4
-same-length-4 c = search needs
-
-same-length-5 : tie.Need-same-length-5
-same-length-5 c = search needs
-
-same-length-6 : tie.Need-same-length-6
-same-length-6 c = search needs
+same-length-2 : tie.Need-same-length-2
+same-length-2 c = search needs
 
 returns-2 : tie.Need-returns-2
 returns-2 c = search needs
@@ -58,8 +44,7 @@ returns-2 c = search needs
 returns-3 : tie.Need-returns-3
 returns-3 c =
     let k = c .before .before in
-    let s = k .before .before .before .before .before in
-    (s .pre, file-no-letters _ _ (letters-none _ _ (k .first-two .ensures) (c .enum-told3 .given .1)))
+    file-no-letters _ _ (k .before .before .before .args .bits .now) (letters-none _ _ (k .first-two .ensures) (c .enum-told3 .given .1))
 
 pub read-spec : {M : Type 1} → statement M
 read-spec =
@@ -72,11 +57,7 @@ read-spec =
     read-map-requires-2
     enum-told-3
     same-length
-    same-length-2
-    same-length-3
     returns
-    same-length-4
-    same-length-5
-    same-length-6
+    same-length-2
     returns-2
     returns-3)

@@ -1,6 +1,8 @@
 -- `read_map` meets its contract: no header, sides out of bounds, or what reading the raster finds, in that order.
+use native.Mathlib.Omega.{arith}
 use borrow.Author.Tests.{not-true, not-false}
 use lib.ListN.{drop}
+use Rattle.field.specs.Limits.{most-crossings-is, crossings-few}
 use Rattle.raster.specs.RasterParts.{formatOf}
 use Rattle.header.specs.Answers.{answered-no}
 use Rattle.reader.proofs.FirstTwo.{letters-long}
@@ -12,7 +14,7 @@ use Rattle.reader.proofs.read_map.Tie as tie
 
 header-requires : tie.Need-header-requires
 header-requires c κs =
-    let s = c .before .before .before .before in
+    let s = c .before .before in
     letters-long (formatOf (s .args .plain)) _ (drop 2 (s .args .src .now)) (s .pre .letters)
 
 enum-known-head : tie.Need-enum-known-head
@@ -24,8 +26,8 @@ enum-told c = search needs
 returns : tie.Need-returns
 returns c =
     let k = c .before .before in
-    let s = k .before .before .before .before .before in
-    (s .pre .parallel, map-no-header (formatOf (s .args .plain)) _ _ (s .pre .letters) (head-missing _ _ _ (k .header .ensures) (c .enum-told .given .1)))
+    let s = k .before .before .before in
+    map-no-header (formatOf (s .args .plain)) _ _ (s .args .bits .now) (s .pre .letters) (head-missing _ _ _ (k .header .ensures) (c .enum-told .given .1))
 
 sized-requires : tie.Need-sized-requires
 sized-requires c κs = search needs
@@ -34,11 +36,9 @@ returns-2 : tie.Need-returns-2
 returns-2 c =
     let g = c .before .before .before in
     let k = g .before .before in
-    let s = k .before .before .before .before .before in (
-      s .pre .parallel,
-      map-no-sides (formatOf (s .args .plain)) _ _ (s .pre .letters) (head-found _ _ _ _ _ _ (k .header .ensures) (g .head .given .1) .1)
-          (answered-no (not-true _ (c .if1 .taken)) (c .before .sized .ensures .1)),
-    )
+    let s = k .before .before .before in
+    map-no-sides (formatOf (s .args .plain)) _ _ (s .args .bits .now) (s .pre .letters) (head-found _ _ _ _ _ _ (k .header .ensures) (g .head .given .1) .1)
+    (answered-no (not-true _ (c .if1 .taken)) (c .before .sized .ensures .1))
 
 sub-read-raster : tie.Need-sub-read-raster
 sub-read-raster c =
@@ -55,34 +55,26 @@ part-read-raster-end c = search needs
 
 read-raster-requires : tie.Need-read-raster-requires
 read-raster-requires c κs =
-    let e = c .before .before .before .before in
+    let e = c .before .before in
     let k = e .before .before .before .before .before in
-    let s = k .before .before .before .before .before in
-    record { sides = e .before .sized .ensures .0 (not-false _ (e .if1 .left)); parallel = s .pre .parallel }
+    let s = k .before .before .before in
+    let sides = e .before .sized .ensures .0 (not-false _ (e .if1 .left)) in
+    record { sides = sides; room = omega (arith, crossings-few sides, most-crossings-is, s .pre .room) }
 
 same-length : tie.Need-same-length
 same-length c = search needs
 
-same-length-2 : tie.Need-same-length-2
-same-length-2 c = search needs
-
-same-length-3 : tie.Need-same-length-3
-same-length-3 c = search needs
-
 returns-3 : tie.Need-returns-3
 returns-3 c =
-    let r = c .before .before .before .before .before .before in
-    let e = r .before .before .before .before .before in
+    let r = c .before .before in
+    let e = r .before .before .before in
     let g = e .before .before .before in
     let k = g .before .before in
-    let s = k .before .before .before .before .before in (
-      r .read-raster .ensures .0,
-      map-reads (formatOf (s .args .plain)) _ _ (s .pre .letters) (head-found _ _ _ _ _ _ (k .header .ensures) (g .head .given .1) .1)
-          (e .before .sized .ensures .0 (not-false _ (e .if1 .left)))
-          (r .read-raster .result)
-          _
-          (rw (part-is (s .args .src .now) (g .head .given .0 .1 .1 .0)) at (r .read-raster .ensures .1)),
-    )
+    let s = k .before .before .before in
+    map-reads (formatOf (s .args .plain)) _ _ _ (s .pre .letters) (head-found _ _ _ _ _ _ (k .header .ensures) (g .head .given .1) .1)
+    (e .before .sized .ensures .0 (not-false _ (e .if1 .left)))
+    (r .read-raster .result)
+    (rw (part-is (s .args .src .now) (g .head .given .0 .1 .1 .0)) at (r .read-raster .ensures))
 
 pub read-map-spec : {M : Type 1} → statement M
 read-map-spec =
@@ -99,6 +91,4 @@ read-map-spec =
     part-read-raster-end
     read-raster-requires
     same-length
-    same-length-2
-    same-length-3
     returns-3)

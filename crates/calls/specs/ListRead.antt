@@ -1,8 +1,8 @@
 -- What stands in the list after a map is read: a well-formed list, whose rocks are exactly the file's.
 use mathlib.Core.Path.{_≡_, sym, ap, _∙_}
-use mathlib.Core.List.{List}
+use mathlib.Core.List.{List, _++_}
 use mathlib.Core.Logic.{_↔_}
-use Prim.Native.Nat.{ℕ, _+_, _*_, _<_}
+use Prim.Native.Nat.{ℕ, _+_, _*_, _<_, _≤_}
 use native.Mathlib.Omega.{arith}
 use lib.ListN.{length, drop, take, List·getD-append, length-append, length-drop}
 use lib.Seq.{take-at}
@@ -11,9 +11,19 @@ use Rattle.field.specs.Labels.{Rock, blank}
 use Rattle.mapfile.specs.File.{FileRock, markersOf}
 use Rattle.mapfile.specs.RockLaws.{raster-crossings, marker-id, marker-on, markers-of}
 use Rattle.markers.specs.List.{slot, WellFormed, inUse}
-use Rattle.reader.specs.Promise.{Taken}
+use Rattle.mapfile.specs.File.{MapFile}
+use Rattle.field.specs.Map.{most-markers}
 
-module _ {file : List ℕ} {list after : List Marker} {w h count : ℕ} (t : Taken file list w h count after) where
+-- What a read call that is not refused makes of the list: "markers with ids 1, 2, 3 and on, in raster order, in the first slots; other slots stay".
+pub record ListRead (file : List ℕ) (list : List Marker) (w h count : ℕ) (after : List Marker) : Type 0 where
+  pub bits : List ℕ
+  pub map : MapFile file w h bits
+  pub counted : count ≡ length (markersOf w h bits)
+  pub lent : count ≤ length list
+  pub few : count ≤ most-markers
+  pub slots : after ≡ markersOf w h bits ++ drop count list
+
+module _ {file : List ℕ} {list after : List Marker} {w h count : ℕ} (t : ListRead file list w h count after) where
   long : length (t .bits) ≡ h * w
   long = raster-crossings (t .map .format) w h (t .map .body) (t .bits) (t .map .raster)
 
