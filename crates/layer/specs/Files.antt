@@ -1,4 +1,4 @@
--- The second part of reading: the markers that the first part has in slices of their own are put in the list.
+-- The second part of reading: the markers of the map whose bits the first part has are put in the list.
 use mathlib.Core.Path.{_≡_}
 use mathlib.Core.List.{List, _++_}
 use Prim.Native.Nat.{ℕ, _*_, _≤_}
@@ -6,13 +6,6 @@ use lib.ListN.{length, take, drop}
 use Rattle.field.specs.declared.Marker.{Marker}
 use Rattle.field.specs.Map.{Sides, most-markers}
 use Rattle.mapfile.specs.File.{markersOf}
-use Rattle.markers.specs.Promise.{Parallel}
-
--- What it asks: as many markers in the slices and as many slots in the list.
-pub record MayPutSlices (list : List Marker) (count : ℕ) (ids xs ys : List ℕ) : Type 0 where
-  pub parallel : Parallel ids xs ys
-  pub had : count ≤ length ids
-  pub lent : count ≤ length list
 
 -- The first bytes are the bits of a map within the limits, and its rocks are as many as may be in use.
 pub record Counted (w h count : ℕ) (bits : List ℕ) : Type 0 where

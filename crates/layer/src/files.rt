@@ -3,15 +3,13 @@ use super::prepare;
 use exchange::ReadMap;
 use exchange::WroteMap;
 use field::MOST_CROSSINGS;
-use field::MOST_MARKERS;
 use field::Marker;
 ghost use mathlib.Core.Path.{_≡_};
 ghost use Prim.Native.Nat.{_*_};
 ghost use lib.ListN.{take};
-ghost use Rattle.markers.specs.Promise.{listOf};
 ghost use Rattle.mapfile.specs.File.{markersOf};
 ghost use Rattle.calls.specs.Calls.{ReadCall, WriteCall};
-ghost use Rattle.layer.specs.Files.{MayPut, MayPutSlices, putIn};
+ghost use Rattle.layer.specs.Files.{MayPut, putIn};
 
 // Writes the list as a map file, P4. Hands back the number of bytes written, or the refusal: 1, 3, 16 or 17. Bytes past the end stay, and a refusal
 // changes none.
@@ -29,18 +27,6 @@ pub extern "C" fn bodkin_write(
     let size = exchange::area(w, h);
     let n = prepare(list, count, w, h, 0, 0, 0, 0, true, &mut sheet[..size]);
     exchange::write_stamped(n, count, w, h, &sheet[..size], out)
-}
-
-// The second part of reading: puts the first `count` markers of three slices in the first slots of the list. Other slots stay.
-fn put_slices(list: &mut [Marker], count: usize, ids: &[u16], xs: &[u16], ys: &[u16])
-    requires { ⌜ MayPutSlices (now list) count (now ids) (now xs) (now ys) ⌝ }
-    ensures { λ _. ⌜ now (list .exit) ≡ putIn (now (list .entry)) count (listOf (now (ids .entry)) (now (xs .entry)) (now (ys .entry))) ⌝ }
-{
-    let mut k: usize = 0;
-    while k < count {
-        list[k] = exchange::marker_at(ids, xs, ys, k);
-        k += 1;
-    }
 }
 
 // The second part of reading: puts the map's markers in the first slots of the list, by its bits in raster order. Other slots stay.
@@ -64,10 +50,8 @@ fn put(list: &mut [Marker], count: usize, w: usize, h: usize, bits: &[u8])
 pub extern "C" fn bodkin_read(src: &[u8], list: &mut [Marker]) -> ReadMap
     ensures { λ r. ⌜ ReadCall (now (src .entry)) (now (list .entry)) (now (list .exit)) r ⌝ }
 {
-    let mut ids = [0u16; MOST_MARKERS];
-    let mut xs = [0u16; MOST_MARKERS];
-    let mut ys = [0u16; MOST_MARKERS];
-    let r = exchange::read_markers(src, list.len(), &mut ids, &mut xs, &mut ys);
-    put_slices(list, r.count, &ids, &xs, &ys);
+    let mut bits = [0u8; MOST_CROSSINGS];
+    let r = exchange::read_bits(src, list.len(), &mut bits);
+    put(list, r.count, r.width, r.height, &bits);
     r
 }
