@@ -125,9 +125,13 @@ pub fn marker_of(w: usize, h: usize, place: usize, k: usize) -> Marker
     requires { ⌜ MayMark w h place k ⌝ }
     ensures { λ r. ⌜ r ≡ markerAt w h (k + 1) place ⌝ }
 {
+    let id = k + 1;
+    let x = place % w;
+    let rows = place / w + 1;
+    let y = h - rows;
     Marker {
-        id: (k + 1) as u16,
-        x: (place % w) as u16,
-        y: (h - (place / w + 1)) as u16,
+        id: id as u16,
+        x: x as u16,
+        y: y as u16,
     }
 }

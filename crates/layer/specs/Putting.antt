@@ -13,7 +13,7 @@ use Rattle.markers.specs.List.{slot}
 use Rattle.mapfile.specs.File.{markersFrom, markersOf}
 use Rattle.mapfile.specs.MarkerLaws.{ones, ones-append, markerAt, markers-length}
 use Rattle.exchange.specs.Promise.{RockAhead, NextRock, MayMark}
-use Rattle.layer.specs.Files.{Counted, MayPut}
+use Rattle.layer.specs.Files.{MapBits, MayPut}
 
 -- k rocks stand before the i-th bit.
 pub record Passed (bits : List ℕ) (i k : ℕ) : Type 0 where
@@ -82,7 +82,7 @@ rock-slot w h n k (zero ∷ bits) (suc at) l r = rock-slot w h n (k + 1) bits at
 rock-slot w h n k (suc b ∷ bits) (suc at) l r = rock-slot w h (n + 1) (k + 1) bits at (omega arith) r ∙ ap₂ (markerAt w h) (omega arith) (omega arith)
 
 -- The bits of a map, at the front of the bytes: the next rock past k of them.
-module _ {w h count : ℕ} {bits : List ℕ} (c : Counted w h count bits) {i k : ℕ} (less : k < count) (p : Passed (take (h * w) bits) i k) where
+module _ {w h count : ℕ} {bits : List ℕ} (c : MapBits w h count bits) {i k : ℕ} (less : k < count) (p : Passed (take (h * w) bits) i k) where
   map-length : length (take (h * w) bits) ≡ h * w
   map-length = length-take-le (h * w) bits (c .all)
 

@@ -51,7 +51,7 @@ use Rattle.walks.specs.Slots.{mach, marker-typed, puts-slot}
 use Rattle.walks.specs.Lending.{sliceAt, shrOwn, lastly, Known, opened, opens, shuts, says-last, doubles}
 use Rattle.walks.specs.Meeting.{Promised, meets}
 use Rattle.exchange.specs.Promise.{RockAhead, NextRock}
-use Rattle.layer.specs.Files.{Counted, MayPut, putIn}
+use Rattle.layer.specs.Files.{MapBits, MayPut, putIn}
 use Rattle.layer.specs.Reading.{put-length, put-more}
 use Rattle.layer.specs.Putting.{Passed, passed-none, rock-ahead, passed-next, may-mark, next-slot, put-had}
 use Rattle.exchange.proofs.next_rock as rock
@@ -173,7 +173,7 @@ module _ {M : Type 1} (𝓤 : URA M) (H : Heap 𝓤) (A : Atoms 𝓤) (W : Given
           let f₁ : s .0 * 6 < 2 ^ 64 = omega arith in
           let f₂ : s .0 + 1 < 2 ^ 64 = omega arith in
           let f₃ : s .0 < 2 ^ 64 = omega arith in
-          let map : Counted w h count bits = may .bits-of (omega arith) in
+          let map : MapBits w h count bits = may .bits-of (omega arith) in
           let ahead : RockAhead bits (s .1 .0) = rock-ahead map less (s .1 .1 .1) in
           let f₄ : s .1 .0 < 2 ^ 64 = omega (arith, ahead .ahead, ahead .below, room′ .0) in
           -- the next rock. [the list; what is kept of it; bits; tokens; the locals]
