@@ -1,2 +1,3 @@
 -- Laws that the proofs of the code cite.
 mod Marks
+mod Rocks

@@ -1,21 +1,19 @@
 -- What the parts of the two map-file calls promise that need no list of records. Writing: the map's size is told, and once the rocks are stamped on a
--- sheet of that size, the second part finds 16 and 17 or writes. Reading: the first part finds every refusal and has the file's markers in slices of
--- their own.
+-- sheet of that size, the second part finds 16 and 17 or writes. Reading: the first part finds every refusal and has the file's bits; the second part goes
+-- from rock to rock.
 use mathlib.Core.Path.{_≡_}
-use mathlib.Core.List.{List, _++_}
+use mathlib.Core.List.{List}
 use mathlib.Core.Logic.{_⊎_}
-use Prim.Native.Nat.{ℕ, _*_, _≤_}
-use lib.ListN.{length, take, drop}
-use Rattle.field.specs.declared.Marker.{Marker}
+use Prim.Native.Nat.{ℕ, _*_, _<_, _≤_}
+use lib.ListN.{length, getD}
 use Rattle.field.specs.Map.{Sides, side, most-markers}
 use Rattle.field.specs.Refusals.{success, no-slot, shared-crossing}
 use Rattle.field.specs.Workings.MarkCount.{marks}
-use Rattle.markers.specs.Promise.{listOf, Parallel}
-use Rattle.mapfile.specs.File.{MapFile, markersOf, FileFault, NoSlot}
+use Rattle.mapfile.specs.File.{FileFault, NoSlot}
 use Rattle.writer.specs.Promise.{Asked, Writes, wroteNumber}
 use Rattle.writer.specs.declared.Wrote.{Wrote}
 use Rattle.writer.specs.declared.Wrote.the-variants.{Bytes, Short}
-use Rattle.reader.specs.Promise.{readNumber}
+use Rattle.reader.specs.Promise.{readNumber, Taken}
 use Rattle.reader.specs.declared.Reading.{Reading}
 use Rattle.reader.specs.declared.Reading.the-variants.{Map, Refused}
 use Rattle.exchange.specs.declared.ReadMap.{ReadMap}
@@ -52,26 +50,28 @@ abbrev pub readMap : Reading → ReadMap
 readMap (Map w h count) = record { refusal = readNumber (Map w h count); width = w; height = h; count = count }
 readMap (Refused n) = record { refusal = readNumber (Refused n); width = 0; height = 0; count = 0 }
 
--- What the first part of reading asks: three slices of one length, with a slot for as many markers as may be in use.
-pub record MarkerRoom (ids xs ys : List ℕ) : Type 0 where
-  pub parallel : Parallel ids xs ys
-  pub most : most-markers ≤ length ids
+-- The first part of reading: the refusal of the file, or of its rocks where they find no slot, or the map, whose bits are the first of the bytes handed
+-- back.
+pub data ReadFirst (file : List ℕ) (lent : ℕ) (out : List ℕ) (r : ReadMap) : Type 0 where
+  refused : (n : ℕ) → FileFault file n ⊎ (NoSlot file lent × (n ≡ no-slot)) → r ≡ readMap (Refused n) → ReadFirst file lent out r
+  found : (w h count : ℕ) → Taken file lent w h count out → r ≡ readMap (Map w h count) → ReadFirst file lent out r
 
--- A map whose rocks find a slot each in a list of `lent` slots: their markers stand in the first of these.
-pub record Found (file : List ℕ) (lent w h count : ℕ) (markers : List Marker) : Type 0 where
-  pub bits : List ℕ
-  pub map : MapFile file w h bits
-  pub counted : count ≡ length (markersOf w h bits)
-  pub within : count ≤ lent
-  pub few : count ≤ most-markers
-  pub slots : take count markers ≡ markersOf w h bits
+-- What the next rock asks: there is one at `from` or after it.
+pub record RockAhead (bits : List ℕ) (from : ℕ) : Type 0 where
+  pub place : ℕ
+  pub ahead : from ≤ place
+  pub below : place < length bits
+  pub rock : ¬ (getD bits place 0 ≡ 0)
 
--- The first part of reading: the refusal of the file, or of its rocks where they find no slot, or the map.
-pub data ReadFirst (file : List ℕ) (lent : ℕ) (markers : List Marker) (r : ReadMap) : Type 0 where
-  refused : (n : ℕ) → FileFault file n ⊎ (NoSlot file lent × (n ≡ no-slot)) → r ≡ readMap (Refused n) → ReadFirst file lent markers r
-  found : (w h count : ℕ) → Found file lent w h count markers → r ≡ readMap (Map w h count) → ReadFirst file lent markers r
+-- The first rock at `from` or after it: no crossing before it is one.
+pub record NextRock (bits : List ℕ) (from r : ℕ) : Type 0 where
+  pub ahead : from ≤ r
+  pub below : r < length bits
+  pub rock : ¬ (getD bits r 0 ≡ 0)
+  pub first : (i : ℕ) → from ≤ i → i < r → getD bits i 0 ≡ 0
 
--- And the slices are of one length still.
-pub record ReadsMarkers (file : List ℕ) (lent : ℕ) (ids xs ys : List ℕ) (r : ReadMap) : Type 0 where
-  pub parallel : Parallel ids xs ys
-  pub first : ReadFirst file lent (listOf ids xs ys) r
+-- What a rock's marker asks: its place is on a map within the limits, and there are fewer rocks before it than may be in use.
+pub record MayMark (w h place k : ℕ) : Type 0 where
+  pub sides : Sides w h
+  pub on : place < h * w
+  pub few : k < most-markers

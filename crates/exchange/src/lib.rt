@@ -1,18 +1,17 @@
-// The parts of the two map-file calls that need no list of records: writing from a sheet on which the rocks are stamped, and reading into slices of
-// ids and places.
+// The parts of the two map-file calls that need no list of records: writing from a sheet on which the rocks are stamped, and reading into bits, from
+// which each rock's marker is told.
 use field::Marker;
-use field::refusals::NO_SLOT;
 use field::refusals::SHARED_CROSSING;
 use field::refusals::SHORT_OUTPUT;
 use reader::Reading;
 use writer::Wrote;
 ghost use mathlib.Core.Path.{_≡_};
-ghost use Prim.Native.Nat.{_<_};
+ghost use Prim.Native.Nat.{_+_, _*_, _≤_};
 ghost use lib.ListN.{length};
+ghost use Rattle.field.specs.Map.{side};
 ghost use Rattle.field.specs.Workings.MarkCount.{marks};
-ghost use Rattle.markers.specs.List.{slot};
-ghost use Rattle.markers.specs.Promise.{listOf, Parallel};
-ghost use Rattle.exchange.specs.Promise.{Area, MayWrite, WriteRest, MarkerRoom, ReadsMarkers};
+ghost use Rattle.mapfile.specs.MarkerLaws.{markerAt};
+ghost use Rattle.exchange.specs.Promise.{Area, MayWrite, WriteRest, ReadFirst, RockAhead, NextRock, MayMark};
 
 // Width, height and number of markers of a map that was read, or the refusal.
 #[repr(C)]
@@ -87,36 +86,19 @@ pub fn write_stamped(
     }
 }
 
-// The first part of reading: the file's markers, each field in a slice of its own, and the refusal, 12, 13, 1, 14, 15 or 7, or the map. `lent` is how
-// many slots the list has.
-pub fn read_markers(
-    src: &[u8],
-    lent: usize,
-    ids: &mut [u16],
-    xs: &mut [u16],
-    ys: &mut [u16],
-) -> ReadMap
-    requires { ⌜ MarkerRoom (now ids) (now xs) (now ys) ⌝ }
-    ensures { λ r. ⌜ ReadsMarkers (now (src .entry)) lent (now (ids .exit)) (now (xs .exit)) (now (ys .exit)) r ⌝ }
+// The first part of reading: the file's bits in raster order, and the map or the refusal, 12, 13, 1, 14, 15 or 7. `lent` is how many slots the list has.
+pub fn read_bits(src: &[u8], lent: usize, bits: &mut [u8]) -> ReadMap
+    requires { ⌜ side * side ≤ length (now bits) ⌝ }
+    ensures { λ r. ⌜ ReadFirst (now (src .entry)) lent (now (bits .exit)) r ⌝ }
 {
-    let reading = reader::read(src, ids, xs, ys);
+    let reading = reader::read(src, lent, bits);
     match reading {
-        Reading::Map(width, height, count) => {
-            if lent < count {
-                return ReadMap {
-                    refusal: NO_SLOT,
-                    width: 0,
-                    height: 0,
-                    count: 0,
-                };
-            }
-            ReadMap {
-                refusal: 0,
-                width,
-                height,
-                count,
-            }
-        }
+        Reading::Map(width, height, count) => ReadMap {
+            refusal: 0,
+            width,
+            height,
+            count,
+        },
         Reading::Refused(n) => ReadMap {
             refusal: n,
             width: 0,
@@ -126,14 +108,30 @@ pub fn read_markers(
     }
 }
 
-// The k-th marker of three slices.
-pub fn marker_at(ids: &[u16], xs: &[u16], ys: &[u16], k: usize) -> Marker
-    requires { ⌜ (Parallel (now ids) (now xs) (now ys)) × (k < length (now ids)) ⌝ }
-    ensures { λ r. ⌜ r ≡ slot (listOf (now (ids .entry)) (now (xs .entry)) (now (ys .entry))) k ⌝ }
+// The first rock at `from` or after it, in raster order.
+pub fn next_rock(bits: &[u8], from: usize) -> usize
+    requires { ⌜ RockAhead (now bits) from ⌝ }
+    ensures { λ r. ⌜ NextRock (now (bits .entry)) from r ⌝ }
 {
+    let mut i = from;
+    while bits[i] == 0 {
+        i += 1;
+    }
+    i
+}
+
+// The marker of the rock that stands at this place in raster order, the k-th of the file: ids rise from 1. "The first raster row is the northmost."
+pub fn marker_of(w: usize, h: usize, place: usize, k: usize) -> Marker
+    requires { ⌜ MayMark w h place k ⌝ }
+    ensures { λ r. ⌜ r ≡ markerAt w h (k + 1) place ⌝ }
+{
+    let id = k + 1;
+    let x = place % w;
+    let rows = place / w + 1;
+    let y = h - rows;
     Marker {
-        id: ids[k],
-        x: xs[k],
-        y: ys[k],
+        id: id as u16,
+        x: x as u16,
+        y: y as u16,
     }
 }

@@ -2,4 +2,5 @@
 pub mod Prepared
 pub mod Files
 pub mod Writing
+pub mod Putting
 pub mod Reading

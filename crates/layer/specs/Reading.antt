@@ -1,23 +1,23 @@
 -- From the parts of reading to the call's promise. Where the first part refuses, the count is 0, and the second part puts nothing; else it puts the
 -- markers of the map in the first slots.
-use mathlib.Core.Path.{_≡_, sym, ap, subst, _∙_}
+use mathlib.Core.Path.{_≡_, sym, ap, ap₂, subst, _∙_}
 use mathlib.Core.List.{List, [], _∷_, _++_, append-assoc}
 use mathlib.Core.Logic.{_⊎_, inl, inr}
-use Prim.Native.Nat.{ℕ, suc, _+_, _<_, _≤_}
+use Prim.Native.Nat.{ℕ, suc, _+_, _*_, _<_, _≤_}
 use native.Mathlib.Omega.{arith}
 use native.Mathlib.Numerals.{add-one}
 use lib.ListN.{length, set, take, drop, length-append, length-drop}
-use lib.Seq.{take-suc, drop-cons, set-at, take-at, length-take-le}
+use lib.Seq.{take-suc, drop-cons, set-at, take-all, length-take-le}
 use Rattle.field.specs.declared.Marker.{Marker}
-use Rattle.field.specs.Map.{most-markers}
+use Rattle.field.specs.Map.{side, most-markers}
 use Rattle.field.specs.Refusals.{no-slot}
 use Rattle.field.specs.Labels.{blank}
+use Rattle.field.specs.Limits.{most-crossings-is, crossings-few}
 use Rattle.markers.specs.List.{slot}
-use Rattle.markers.specs.Promise.{listOf}
 use Rattle.mapfile.specs.File.{markersOf, FileFault, NoSlot}
 use Rattle.mapfile.specs.FileLaws.{map-file-one}
 use Rattle.calls.specs.Exactly.{fault-number}
-use Rattle.exchange.specs.Promise.{ReadFirst, refused, found, ReadsMarkers}
+use Rattle.exchange.specs.Promise.{ReadFirst, refused, found}
 use Rattle.layer.specs.Files.{MayPut, putIn}
 use Rattle.calls.specs.Calls.{ReadCall}
 use Rattle.exchange.specs.declared.ReadMap.{ReadMap}
@@ -37,27 +37,28 @@ put-more list markers k l m =
     front : List Marker
     front = take k markers
 
-module _ {file : List ℕ} {list : List Marker} {ids xs ys : List ℕ} {r : ReadMap} (p : ReadsMarkers file (length list) ids xs ys r) where
-  -- The second part may put as many as are counted.
-  pub may-put : most-markers ≤ length ids → MayPut list (r .count) ids xs ys
-  may-put l = go (p .first)
-    where
-      go : ReadFirst file (length list) (listOf ids xs ys) r → MayPut list (r .count) ids xs ys
-      go (refused n f e) =
-          let z : r .count ≡ 0 = ap (λ (a : ReadMap). a .count) e in
-          record { parallel = p .parallel; had = omega arith; lent = omega arith }
-      go (found w h count f e) =
-          let z : r .count ≡ count = ap (λ (a : ReadMap). a .count) e in
-          record { parallel = p .parallel; had = omega (arith, f .few); lent = omega (arith, f .within) }
+-- The second part may put as many as are counted.
+pub may-put : {file : List ℕ} {list : List Marker} {out : List ℕ} {r : ReadMap} → side * side ≤ length out → ReadFirst file (length list) out r
+    → MayPut list (r .count) (r .width) (r .height) out
+may-put {r = r} l (refused n f e) =
+    let none : r .count ≡ 0 = ap (λ (a : ReadMap). a .count) e in
+    record { lent = omega arith; bits-of = λ some. absurd (omega arith) }
+may-put {out = out} {r = r} l (found w h count f e) =
+    let many : r .count ≡ count = ap (λ (a : ReadMap). a .count) e in
+    record {
+      lent = omega (arith, f .within);
+      bits-of = λ some. rw (ap (λ (a : ReadMap). a .width) e, ap (λ (a : ReadMap). a .height) e, many)
+          (record { sides = f .map .sides; all = omega (arith, crossings-few (f .map .sides), most-crossings-is); counted = f .counted; few = f .few });
+    }
 
 -- The call's promise.
-pub read-call : {file : List ℕ} {list list′ markers : List Marker} {r : ReadMap} → ReadFirst file (length list) markers r → list′ ≡ putIn list (r .count) markers
-    → ReadCall file list list′ r
-read-call {file} {list} {list′} {markers} {r} (refused n f e) s =
+pub read-call : {file : List ℕ} {list list′ : List Marker} {out : List ℕ} {r : ReadMap} → ReadFirst file (length list) out r
+    → list′ ≡ putIn list (r .count) (markersOf (r .width) (r .height) (take (r .height * r .width) out)) → ReadCall file list list′ r
+read-call {file} {list} {list′} {out} {r} (refused n f e) s =
     record {
       refused = λ z. (
         subst (λ (k : ℕ). FileFault file k ⊎ (NoSlot file (length list) × (k ≡ no-slot))) (sym number) f,
-        s ∙ ap (λ (k : ℕ). putIn list k markers) none,
+        s ∙ ap (λ (k : ℕ). putIn list k (markersOf (r .width) (r .height) (take (r .height * r .width) out))) none,
         ap (λ (a : ReadMap). a .width) e,
         ap (λ (a : ReadMap). a .height) e,
         none,
@@ -74,10 +75,10 @@ read-call {file} {list} {list′} {markers} {r} (refused n f e) s =
     some : FileFault file n ⊎ (NoSlot file (length list) × (n ≡ no-slot)) → ¬ (n ≡ 0)
     some (inl g) = fault-number g .0
     some (inr g) = omega (arith, g .1)
-read-call {file} {list} {list′} {markers} {r} (found w h count f e) s =
+read-call {file} {list} {list′} {out} {r} (found w h count f e) s =
     record {
       refused = λ z. absurd (z (ap (λ (a : ReadMap). a .refusal) e));
-      done = λ z. rw (width, height) (f .bits, f .map, counted, room, s ∙ ap (λ (t : List Marker). t ++ drop (r .count) list) (ap (λ (k : ℕ). take k markers) many ∙ f .slots));
+      done = λ z. rw (width, height) (take (h * w) out, f .map, counted, room, slots);
     }
   where
     width : r .width ≡ w
@@ -86,11 +87,14 @@ read-call {file} {list} {list′} {markers} {r} (found w h count f e) s =
     height : r .height ≡ h
     height = ap (λ (a : ReadMap). a .height) e
 
-    many : r .count ≡ count
-    many = ap (λ (a : ReadMap). a .count) e
+    counted : r .count ≡ length (markersOf w h (take (h * w) out))
+    counted = ap (λ (a : ReadMap). a .count) e ∙ f .counted
 
-    counted : r .count ≡ length (markersOf w h (f .bits))
-    counted = many ∙ f .counted
+    slots : list′ ≡ markersOf w h (take (h * w) out) ++ drop (r .count) list
+    slots =
+        s
+        ∙ ap₂ (λ (a b : ℕ). putIn list (r .count) (markersOf a b (take (b * a) out))) width height
+        ∙ ap (λ (t : List Marker). t ++ drop (r .count) list) (take-all (r .count) (markersOf w h (take (h * w) out)) (omega (arith, counted)))
 
     room : ¬ NoSlot file (length list)
     room t = go (t .many)

@@ -3,10 +3,11 @@ use super::prepare;
 use exchange::ReadMap;
 use exchange::WroteMap;
 use field::MOST_CROSSINGS;
-use field::MOST_MARKERS;
 use field::Marker;
 ghost use mathlib.Core.Path.{_≡_};
-ghost use Rattle.markers.specs.Promise.{listOf};
+ghost use Prim.Native.Nat.{_*_};
+ghost use lib.ListN.{take};
+ghost use Rattle.mapfile.specs.File.{markersOf};
 ghost use Rattle.calls.specs.Calls.{ReadCall, WriteCall};
 ghost use Rattle.layer.specs.Files.{MayPut, putIn};
 
@@ -28,14 +29,17 @@ pub extern "C" fn bodkin_write(
     exchange::write_stamped(n, count, w, h, &sheet[..size], out)
 }
 
-// The second part of reading: puts the first `count` markers of three slices in the first slots of the list. Other slots stay.
-fn put(list: &mut [Marker], count: usize, ids: &[u16], xs: &[u16], ys: &[u16])
-    requires { ⌜ MayPut (now list) count (now ids) (now xs) (now ys) ⌝ }
-    ensures { λ _. ⌜ now (list .exit) ≡ putIn (now (list .entry)) count (listOf (now (ids .entry)) (now (xs .entry)) (now (ys .entry))) ⌝ }
+// The second part of reading: puts the map's markers in the first slots of the list, by its bits in raster order. Other slots stay.
+fn put(list: &mut [Marker], count: usize, w: usize, h: usize, bits: &[u8])
+    requires { ⌜ MayPut (now list) count w h (now bits) ⌝ }
+    ensures { λ _. ⌜ now (list .exit) ≡ putIn (now (list .entry)) count (markersOf w h (take (h * w) (now (bits .entry)))) ⌝ }
 {
+    let mut i: usize = 0;
     let mut k: usize = 0;
     while k < count {
-        list[k] = exchange::marker_at(ids, xs, ys, k);
+        let at = exchange::next_rock(bits, i);
+        list[k] = exchange::marker_of(w, h, at, k);
+        i = at + 1;
         k += 1;
     }
 }
@@ -46,10 +50,8 @@ fn put(list: &mut [Marker], count: usize, ids: &[u16], xs: &[u16], ys: &[u16])
 pub extern "C" fn bodkin_read(src: &[u8], list: &mut [Marker]) -> ReadMap
     ensures { λ r. ⌜ ReadCall (now (src .entry)) (now (list .entry)) (now (list .exit)) r ⌝ }
 {
-    let mut ids = [0u16; MOST_MARKERS];
-    let mut xs = [0u16; MOST_MARKERS];
-    let mut ys = [0u16; MOST_MARKERS];
-    let r = exchange::read_markers(src, list.len(), &mut ids, &mut xs, &mut ys);
-    put(list, r.count, &ids, &xs, &ys);
+    let mut bits = [0u8; MOST_CROSSINGS];
+    let r = exchange::read_bits(src, list.len(), &mut bits);
+    put(list, r.count, r.width, r.height, &bits);
     r
 }

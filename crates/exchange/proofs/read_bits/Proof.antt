@@ -1,0 +1,30 @@
+-- `read_bits` meets its contract: the reader's answer in the call's words.
+use mathlib.Core.Path.{refl}
+use borrow.Author.Needs.{needs}
+use Rattle.exchange.specs.Promise.{refused, found}
+use Rattle.exchange.proofs.read_bits.Statement.{statement}
+use Rattle.exchange.proofs.read_bits.Tie as tie
+
+read-requires : tie.Need-read-requires
+read-requires c κs = search needs
+
+enum-known-reading : tie.Need-enum-known-reading
+enum-known-reading c = search needs
+
+enum-known-reading-2 : tie.Need-enum-known-reading-2
+enum-known-reading-2 c = search needs
+
+same-length : tie.Need-same-length
+same-length c = search needs
+
+returns : tie.Need-returns
+returns c = found _ _ _ (rw (c .before .reading .given .1) at (c .before .before .before .before .before .read .ensures)) refl
+
+same-length-2 : tie.Need-same-length-2
+same-length-2 c = search needs
+
+returns-2 : tie.Need-returns-2
+returns-2 c = refused _ (rw (c .before .reading2 .given .1) at (c .before .before .before .before .before .read .ensures)) refl
+
+pub read-bits-spec : {M : Type 1} → statement M
+read-bits-spec = tie.close (tie.spec read-requires enum-known-reading enum-known-reading-2 same-length returns same-length-2 returns-2)
