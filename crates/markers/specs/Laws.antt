@@ -1,4 +1,4 @@
--- Laws of the marker list. Those of lists of markers speak of no slice: they hold however the list is lent.
+-- Laws of the marker list. They hold however the list is lent.
 --     Rising                 ids that rise stand in one slot each
 --     Moves                  where each marker goes
 --     Formed, Reached        entering and clearing keep a list well formed, and so does every sequence of them: entered-formed, cleared-formed,
@@ -6,7 +6,6 @@
 --     Entering, Clearing     there is one list after: entered-some, entered-one, cleared-some, cleared-one; Making has what both make it with
 --     Times                  every other marker stands there as often as before: entered-other, entered-itself, cleared-other, cleared-itself
 --     Rocks                  which crossings are rocks after: rock-enter, rock-clear, rock-clear-other
---     Slices                 the list that three parallel slices make
 --     Stamping               a sheet being stamped, marker by marker, and that a stamped sheet is settled by its rocks: stamped-one
 --     Placing                where an id stands or belongs, searched by halves
 pub mod Rising
@@ -18,6 +17,5 @@ pub mod Entering
 pub mod Clearing
 pub mod Times
 pub mod Rocks
-pub mod Slices
 pub mod Stamping
 pub mod Placing

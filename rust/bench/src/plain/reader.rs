@@ -1,4 +1,4 @@
-//! The map reader: P1 and P4. It goes over the header once and over the raster twice, so that a refusal changes no slot.
+//! The map reader: P1 and P4. It goes over the file once, into bits of its own, so that a refusal changes no slot.
 use super::header::header;
 use super::judging::sized;
 use super::limits::*;
@@ -16,18 +16,15 @@ pub fn read(file: &[u8], list: &mut [Marker]) -> Result<(usize, usize, usize), u
     if !sized(w, h) {
         return Err(BAD_SIZE);
     }
+    let mut bits = [0; MOST_CROSSINGS];
     let rocks = if plain {
-        raster::judge_plain(body, w, h)?
+        raster::read_plain(body, w, h, &mut bits)?
     } else {
-        raster::judge_raw(body, w, h)?
+        raster::read_raw(body, w, h, &mut bits)?
     };
     if rocks > list.len() || rocks > MOST_MARKERS {
         return Err(NO_SLOT);
     }
-    if plain {
-        raster::fill_plain(body, w, h, list);
-    } else {
-        raster::fill_raw(body, w, list);
-    }
+    raster::fill(list, &bits[..w * h], w, h);
     Ok((w, h, rocks))
 }
