@@ -126,8 +126,11 @@ pub fn marker_of(w: usize, h: usize, place: usize, k: usize) -> Marker
     ensures { λ r. ⌜ r ≡ markerAt w h (k + 1) place ⌝ }
 {
     let id = k + 1;
-    let x = place % w;
-    let rows = place / w + 1;
+    // A processor divides numbers of 32 bits sooner than those of 64.
+    let at = place as u32;
+    let row = w as u32;
+    let x = at % row;
+    let rows = (at / row) as usize + 1;
     let y = h - rows;
     Marker {
         id: id as u16,
