@@ -5,7 +5,7 @@ use Prim.Native.Nat.{ℕ, _+_, _≤_}
 use native.Mathlib.Omega.{arith}
 use lib.ListN.{length, length-append}
 use Rattle.labels.specs.declared.Labelled.{Labelled}
-use Rattle.writer.proofs.Filling.{Filled, filled-as}
+use Rattle.packing.proofs.Filling.{Filled, filled-as}
 use Rattle.chart.specs.Promise.{Line, last-number, next-number}
 use Rattle.chart.specs.Parts.{Puts, NumberThen, FirstLine}
 use Rattle.chart.proofs.Putting.{put-front, front-put, filled-more}

@@ -4,16 +4,11 @@ use mathlib.Core.Path.{_≡_, sym, ap, _∙_}
 use mathlib.Core.List.{List, [], _∷_, _++_, append-assoc}
 use Prim.Native.Nat.{ℕ, _+_, _-_, _<_, _≤_}
 use native.Mathlib.Omega.{arith}
-use native.Mathlib.Numerals.{add-one}
-use lib.ListN.{length, getD, take, drop, length-append, take-append-drop}
-use lib.Seq.{length-take-le, take-suc, take-at, drop-at, drop-append-add, drop-drop}
+use lib.ListN.{length, take, drop, length-append, take-append-drop}
+use lib.Seq.{length-take-le, take-at, drop-at, drop-append-add, drop-drop}
 use borrow.Rule.Slice.PartMut.{midOf, putMid}
-use Rattle.writer.proofs.Filling.{Filled, filled-length, filled-part}
+use Rattle.packing.proofs.Filling.{Filled, filled-length, filled-part}
 use Rattle.chart.specs.Parts.{Put}
-
--- One byte more from the front of a list.
-pub take-more : (l : List ℕ) (i : ℕ) → i < length l → take i l ++ getD l i 0 ∷ [] ≡ take (i + 1) l
-take-more l i h = sym (ap (λ (n : ℕ). take n l) (add-one i) ∙ take-suc l i 0 h)
 
 -- The output as it is, up to a place.
 pub filled-self : (at : ℕ) (out : List ℕ) → at ≤ length out → Filled (take at out) at out out

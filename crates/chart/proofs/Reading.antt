@@ -18,7 +18,7 @@ use Rattle.reader.specs.declared.Reading.the-variants.{Map, Refused}
 use Rattle.reader.specs.Promise.{Reads, Taken}
 use Rattle.chart.specs.Promise.{most-bytes, Charted, at-fault, shown}
 use Rattle.chart.specs.Parts.{Puts, BitsShown, RefusalLine}
-use Rattle.chart.specs.Turning.{MayTurn}
+use Rattle.turning.specs.Turning.{MayTurn}
 
 -- The bits of a map file, one for each crossing.
 map-crossings : {file bits : List ℕ} {w h : ℕ} → MapFile file w h bits → length bits ≡ h * w

@@ -16,8 +16,8 @@ use Rattle.chart.specs.Parts.{Put, Puts, Short, FirstLine, Shown, BitsSh
 use Rattle.chart.specs.Drawing.{pictureOf}
 use Rattle.chart.specs.DrawingLaws.{picture-drawn}
 use Rattle.chart.specs.CountLaws.{count-few}
-use Rattle.chart.specs.Turning.{TurnedBy}
-use Rattle.chart.specs.TurningLaws.{turned-draws}
+use Rattle.turning.specs.Turning.{TurnedBy}
+use Rattle.turning.specs.TurningLaws.{turned-draws}
 use Rattle.chart.proofs.Putting.{put-front, front-put, filled-more}
 
 -- A side is a short number, and so is a number of crossings.

@@ -2,7 +2,7 @@
 use mathlib.Core.List.{List, [], _∷_, _++_}
 use Prim.Native.Nat.{ℕ, zero, suc, _+_, _*_, _-_}
 use lib.ListN.{getD}
-use Rattle.writer.specs.Packing.{pieces}
+use Rattle.packing.specs.Packing.{pieces}
 
 -- The sign of a label.
 unfoldable pub signOf : ℕ → ℕ

@@ -7,8 +7,8 @@ use lib.ListN.{length, getD, length-append, List·getD-append}
 use lib.Seq.{getD-at}
 use Rattle.field.specs.Map.{at}
 use Rattle.field.specs.Labels.{Label, is-open, is-rock, is-shut, LabelSheet}
-use Rattle.writer.specs.Packing.{pieces}
-use Rattle.writer.specs.PackingLaws.{pieces-length, pieces-at}
+use Rattle.packing.specs.Packing.{pieces}
+use Rattle.packing.specs.PackingLaws.{pieces-length, pieces-at}
 use Rattle.chart.specs.Promise.{Sign, open-sign, rock-sign, shut-sign, Picture}
 use Rattle.chart.specs.Drawing.{signOf, signAt, rowOf, pictureOf}
 

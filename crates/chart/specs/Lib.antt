@@ -6,5 +6,3 @@ pub mod Parts
 pub mod Drawing
 pub mod DrawingLaws
 pub mod CountLaws
-pub mod Turning
-pub mod TurningLaws

@@ -10,7 +10,7 @@ use Rattle.labels.specs.declared.Labelled.{Labelled}
 use Rattle.mapfile.specs.File.{FileRock}
 use Rattle.writer.specs.Digits.{digitsOf}
 use Rattle.chart.specs.Promise.{most-bytes, refused, Printed, Line, Picture}
-use Rattle.chart.specs.Turning.{MayTurn}
+use Rattle.turning.specs.Turning.{MayTurn}
 
 -- A piece stands in the output from a place on, up to its end. All else is as it was.
 pub record Put (out : List ℕ) (at : ℕ) (piece after : List ℕ) (end : ℕ) : Type 0 where

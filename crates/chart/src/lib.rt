@@ -10,8 +10,6 @@ ghost use Rattle.chart.specs.Promise.{room, Charted};
 ghost use Rattle.chart.specs.Parts.{Put, Puts, Short, PrintedIn, NumberThen, NumberRoom, FirstLine, LineRoom, RefusalLine, RefusalRoom, RowRoom, RowsRoom, BitsShown, MapRoom, FileRoom};
 ghost use Rattle.chart.specs.Drawing.{signOf, rowOf, pictureOf};
 
-mod turning; // turning.rt: a raster's bits on a sheet
-
 // Room for the longest text: the first line, and SIDE rows of SIDE signs, each with its LF.
 pub const ROOM: usize = 4608;
 

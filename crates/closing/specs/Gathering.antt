@@ -5,7 +5,7 @@ use Prim.Native.Nat.{ℕ, _+_, _*_, _<_, _≤_}
 use lib.ListN.{length, getD}
 use Rattle.field.specs.Map.{number, at}
 use Rattle.closing.specs.Promise.{Stamped}
-use Rattle.closing.specs.Work.{freeTo, xOf, yOf, Packs, Waits}
+use Rattle.touching.specs.Work.{freeTo, xOf, yOf, Packs, Waits}
 
 -- The number v of the stack is a rock's crossing among the first i of the map.
 pub record Gathers (w : ℕ) (s : List ℕ) (i v : ℕ) : Type 0 where

@@ -1,5 +1,3 @@
--- What closing promises; then, for the functions within, what the sheet and the stack hold while it works.
+-- What closing promises; then, for the functions within, what gathering and draining promise.
 pub mod Promise
-pub mod Work
-pub mod Steps
 pub mod Gathering

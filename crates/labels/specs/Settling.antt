@@ -8,7 +8,7 @@ use lib.ListN.{length, getD, set}
 use Rattle.field.specs.Map.{number, at}
 use Rattle.field.specs.Workings.Sheet.{bit}
 use Rattle.labels.specs.declared.Labelled.{Labelled}
-use Rattle.closing.specs.Work.{freeBit}
+use Rattle.touching.specs.Work.{freeBit}
 use Rattle.closing.specs.Promise.{settled}
 
 -- 1 for the byte of a rock, of a shut crossing, of either; and else 0.

@@ -10,8 +10,8 @@ use Rattle.mapfile.specs.File.{raw-letters}
 use Rattle.mapfile.specs.Written.{Written}
 use Rattle.writer.specs.Digits.{DigitCount, digitsOf, headerOf}
 use Rattle.writer.specs.DigitLaws.{digits-length, digits-plain}
-use Rattle.writer.specs.Packing.{rowsOf}
-use Rattle.writer.specs.RowLaws.{rows-length, rows-packed}
+use Rattle.packing.specs.Packing.{rowsOf}
+use Rattle.packing.specs.RowLaws.{rows-length, rows-packed}
 
 -- The whole file, where the width has a digits and the height b.
 unfoldable pub fileOf : List ℕ → ℕ → ℕ → ℕ → ℕ → List ℕ

@@ -2,8 +2,5 @@
 pub mod Promise
 pub mod Outcome
 pub mod Digits
-pub mod Packing
 pub mod DigitLaws
-pub mod PackingLaws
-pub mod RowLaws
 pub mod FileLaws

@@ -3,17 +3,12 @@ use mathlib.Core.Path.{_≡_}
 use mathlib.Core.List.{List, _++_}
 use Prim.Native.Nat.{ℕ, _*_, _<_, _≤_}
 use lib.ListN.{length, drop}
-use Rattle.field.specs.Map.{Sides}
 use Rattle.field.specs.Refusals.{success, short-output}
 use Rattle.field.specs.Workings.Sheet.{Marked}
 use Rattle.mapfile.specs.Written.{Written}
+pub use Rattle.packing.specs.Packing.{Asked}
 use Rattle.writer.specs.declared.Wrote.{Wrote}
 use Rattle.writer.specs.declared.Wrote.the-variants.{Bytes, Short}
-
--- A map within the limits, and a sheet of its size that marks the rocks.
-pub record Asked (w h : ℕ) (s : List ℕ) : Type 0 where
-  pub sides : Sides w h
-  pub size : length s ≡ h * w
 
 -- Document 01's number for each case: 0 on success, 17 where the output is too short for the whole file.
 abbrev pub wroteNumber : Wrote → ℕ

@@ -4,8 +4,8 @@ use native.Mathlib.Omega.{arith}
 use mathlib.Core.Path.{_≡_, refl, ap, _∙_}
 use lib.ListN.{length, getD, take}
 use lib.Seq.{take-length}
-use Rattle.writer.proofs.Filling.{Filled, filled-none, filled-as, filled-length, filled-byte}
-use Rattle.chart.proofs.Putting.{take-more, front-put}
+use Rattle.packing.proofs.Filling.{Filled, filled-none, filled-as, filled-length, filled-byte, take-more}
+use Rattle.chart.proofs.Putting.{front-put}
 use Rattle.chart.proofs.put_bytes.Statement.{statement}
 use Rattle.chart.proofs.put_bytes.Tie as tie
 

@@ -6,7 +6,7 @@ use mathlib.Core.List.{List, [], _∷_, _++_, append-assoc}
 use lib.ListN.{length, take, set}
 use borrow.Rule.Slice.PartMut.{midOf, putMid}
 use Rattle.writer.specs.Digits.{digitsOf}
-use Rattle.writer.proofs.Filling.{filled-as, filled-byte, filled-lent, filled-part}
+use Rattle.packing.proofs.Filling.{filled-as, filled-byte, filled-lent, filled-part}
 use Rattle.chart.specs.Parts.{Put}
 use Rattle.chart.proofs.Putting.{filled-self, filled-put}
 use borrow.Author.Needs.{needs}

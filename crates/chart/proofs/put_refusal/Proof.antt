@@ -2,7 +2,7 @@
 use mathlib.Core.Path.{refl, ap}
 use mathlib.Core.List.{List, [], _∷_, _++_}
 use Prim.Native.Nat.{ℕ}
-use Rattle.writer.proofs.Filling.{filled-as}
+use Rattle.packing.proofs.Filling.{filled-as}
 use Rattle.chart.specs.Promise.{refused}
 use Rattle.chart.specs.Parts.{Put, Puts, NumberThen, RefusalLine}
 use Rattle.chart.proofs.Putting.{put-front, front-put, filled-more}

@@ -4,9 +4,9 @@ use native.Mathlib.Omega.{arith}
 use mathlib.Core.Path.{_≡_, refl, sym, ap}
 use mathlib.Core.List.{List, [], _∷_, _++_}
 use lib.ListN.{length, getD, length-set}
-use Rattle.writer.specs.Packing.{pieces}
-use Rattle.writer.specs.PackingLaws.{pieces-more}
-use Rattle.writer.proofs.Filling.{Filled, filled-none, filled-as, filled-length, filled-all, filled-byte}
+use Rattle.packing.specs.Packing.{pieces}
+use Rattle.packing.specs.PackingLaws.{pieces-more}
+use Rattle.packing.proofs.Filling.{Filled, filled-none, filled-as, filled-length, filled-all, filled-byte}
 use Rattle.chart.specs.Drawing.{signOf, signAt, rowOf}
 use Rattle.chart.proofs.put_row.Statement.{statement}
 use Rattle.chart.proofs.put_row.Tie as tie

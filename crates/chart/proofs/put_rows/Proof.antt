@@ -7,9 +7,9 @@ use mathlib.Core.Path.{_≡_, refl, sym, ap, _∙_}
 use mathlib.Core.List.{List, [], _++_}
 use lib.ListN.{length}
 use Rattle.field.specs.Map.{side}
-use Rattle.writer.specs.Packing.{pieces}
-use Rattle.writer.specs.PackingLaws.{piece-end, pieces-more}
-use Rattle.writer.proofs.Filling.{Filled, filled-as, filled-none, filled-length, filled-all, filled-lent, filled-part}
+use Rattle.packing.specs.Packing.{pieces}
+use Rattle.packing.specs.PackingLaws.{piece-end, pieces-more}
+use Rattle.packing.proofs.Filling.{Filled, filled-as, filled-none, filled-length, filled-all, filled-lent, filled-part}
 use Rattle.chart.specs.Drawing.{rowOf, pictureOf}
 use Rattle.chart.proofs.put_rows.Statement.{statement}
 use Rattle.chart.proofs.put_rows.Tie as tie

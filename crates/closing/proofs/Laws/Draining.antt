@@ -13,14 +13,14 @@ use Rattle.field.specs.Map.{Sides, On, number, at, Near}
 use Rattle.field.specs.Labels.{Closed, rock, Stable, smallest, Label, is-open, is-rock, is-shut}
 use Rattle.field.specs.Workings.Sheet.{number-lt}
 use Rattle.closing.specs.Promise.{Stamped, Stones, settled, Worked}
-use Rattle.closing.specs.Work.{Shown, Free, Seen, freeTo, Noted, xOf, yOf}
-use Rattle.closing.specs.Steps.{Looking, Looked}
+use Rattle.touching.specs.Work.{Shown, Free, Seen, freeTo, Noted, xOf, yOf}
+use Rattle.touching.specs.Steps.{Looking, Looked}
 use Rattle.closing.specs.Gathering.{Gathered, Draining}
-use Rattle.closing.proofs.Laws.Bytes.{byte-kind, shown-free}
-use Rattle.closing.proofs.Laws.Notes.{noted-one}
+use Rattle.touching.proofs.Laws.Bytes.{byte-kind, shown-free}
+use Rattle.touching.proofs.Laws.Notes.{noted-one}
 use Rattle.closing.proofs.Laws.Stacks.{waits-none}
 use Rattle.closing.proofs.Laws.Working.{Sheet, Knows, waits, has-noted, excused, Working}
-use Rattle.closing.proofs.Laws.Rooms.{Even, looked-even}
+use Rattle.touching.proofs.Laws.Rooms.{Even, looked-even}
 use Rattle.closing.proofs.Laws.Looking.{Nobody, working-pop, working-looked}
 
 -- A byte without its note.

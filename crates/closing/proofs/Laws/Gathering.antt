@@ -10,11 +10,11 @@ use lib.ListN.{length, getD, set}
 use lib.Seq.{getD-set-same, getD-set-other}
 use Rattle.field.specs.Map.{number, at}
 use Rattle.field.specs.Workings.GridLaws.{number-one}
-use Rattle.closing.specs.Work.{freeBit, freeTo, packed, Packs, Waits}
+use Rattle.touching.specs.Work.{freeBit, freeTo, packed, Packs, Waits}
 use Rattle.closing.specs.Gathering.{Gathers, Gathered, GatheringRow, Gathering}
-use Rattle.closing.proofs.Laws.Bytes.{free-bit, shown-bit, row-ends}
+use Rattle.touching.proofs.Laws.Bytes.{free-bit, shown-bit, row-ends}
 use Rattle.closing.proofs.Laws.Stacks.{x-packed, y-packed, waits-push, waits-top}
-use Rattle.closing.proofs.Laws.Rooms.{on-packs}
+use Rattle.touching.proofs.Laws.Rooms.{on-packs}
 
 pub gathered-none : (w : ℕ) (s stack : List ℕ) → Gathered w s stack 0 0
 unfolding freeTo

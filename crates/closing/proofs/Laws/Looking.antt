@@ -8,13 +8,13 @@ use native.Mathlib.Omega.{arith}
 use native.Mathlib.Decide.{ℕ-discrete}
 use lib.ListN.{length, getD}
 use Rattle.field.specs.Map.{On, at, Near}
-use Rattle.closing.specs.Work.{Seen, toEast, toSouth, toWest, toNorth, Noted, xOf, yOf, Waits}
-use Rattle.closing.specs.Steps.{Touched, noted, shut, kept, Looking, Step, edge, beside, Looked}
-use Rattle.closing.proofs.Laws.Notes.{noted-high, noted-one, near-noted}
+use Rattle.touching.specs.Work.{Seen, toEast, toSouth, toWest, toNorth, Noted, xOf, yOf, Waits}
+use Rattle.touching.specs.Steps.{Touched, noted, shut, kept, Looking, Step, edge, beside, Looked}
+use Rattle.touching.proofs.Laws.Notes.{noted-high, noted-one, near-noted}
 use Rattle.closing.proofs.Laws.Stacks.{waits-pop}
 use Rattle.closing.proofs.Laws.Working.{Excuse, Knows, waits, has-noted, excused, Working, seen-keeps}
 use Rattle.closing.proofs.Laws.Touching.{Settles, working-touched}
-use Rattle.closing.proofs.Laws.Rooms.{looking-touching, looking-step}
+use Rattle.touching.proofs.Laws.Rooms.{looking-touching, looking-step}
 
 -- Who has not been told of (x, y), once it has looked in the directions below d.
 pub record Untold (x y d p q a b : ℕ) : Type 0 where

@@ -7,7 +7,7 @@ use native.Mathlib.Omega.{arith}
 use native.Mathlib.Decide.{ℕ-discrete}
 use lib.ListN.{length, getD, set}
 use lib.Seq.{getD-set-same, getD-set-other}
-use Rattle.closing.specs.Work.{packed, xOf, yOf, Packs, Waits}
+use Rattle.touching.specs.Work.{packed, xOf, yOf, Packs, Waits}
 
 pub x-packed : (x y : ℕ) → Packs x y → xOf (packed x y) ≡ x
 x-packed x y p = omega arith

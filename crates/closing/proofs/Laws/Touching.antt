@@ -12,10 +12,10 @@ use lib.Seq.{getD-set-same, getD-set-other}
 use Rattle.field.specs.Map.{On, number, at, Near}
 use Rattle.field.specs.Labels.{Closed, between}
 use Rattle.field.specs.Workings.Sheet.{number-lt}
-use Rattle.closing.specs.Work.{Shown, Free, Seen, Noted, packed, xOf, yOf, Packs, Waits}
-use Rattle.closing.specs.Steps.{Touched, noted, shut, kept}
-use Rattle.closing.proofs.Laws.Bytes.{shown-free, at-same, Written, here, elsewhere, written}
-use Rattle.closing.proofs.Laws.Notes.{noted-near, noted-high, noted-apart}
+use Rattle.touching.specs.Work.{Shown, Free, Seen, Noted, packed, xOf, yOf, Packs, Waits}
+use Rattle.touching.specs.Steps.{Touched, noted, shut, kept}
+use Rattle.touching.proofs.Laws.Bytes.{shown-free, at-same, Written, here, elsewhere, written}
+use Rattle.touching.proofs.Laws.Notes.{noted-near, noted-high, noted-apart}
 use Rattle.closing.proofs.Laws.Stacks.{x-packed, y-packed, waits-push, waits-top}
 use Rattle.closing.proofs.Laws.Working.{Excuse, Sheet, Stacked, Knows, waits, has-noted, excused, Working, seen-keeps, seen-back, sheet-write}
 

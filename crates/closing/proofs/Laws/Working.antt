@@ -9,8 +9,8 @@ use native.Mathlib.Omega.{arith}
 use lib.ListN.{length, getD, set, length-set}
 use Rattle.field.specs.Map.{On, number, at, Near}
 use Rattle.field.specs.Labels.{Closed, RockOn}
-use Rattle.closing.specs.Work.{Shown, Free, Seen, Noted, xOf, yOf, Waits}
-use Rattle.closing.proofs.Laws.Bytes.{shown-free, at-same, Written, here, elsewhere, written}
+use Rattle.touching.specs.Work.{Shown, Free, Seen, Noted, xOf, yOf, Waits}
+use Rattle.touching.proofs.Laws.Bytes.{shown-free, at-same, Written, here, elsewhere, written}
 
 -- The closed neighbour that the note n of (x, y) names.
 pub record Named (w h : ℕ) (s : List ℕ) (n x y : ℕ) : Type 0 where

@@ -8,9 +8,9 @@ use native.Mathlib.Nat.{suc-mul}
 use lib.ListN.{getD}
 use borrow.Author.Tests.{eq-eqb, ne-eqb}
 use Rattle.field.specs.Map.{number, at}
-use Rattle.closing.specs.Work.{Shown, Free}
+use Rattle.touching.specs.Work.{Shown, Free}
 use Rattle.labels.specs.Settling.{rockBit, shutBit, closedBit, westBit, southBit, Settling}
-use Rattle.closing.proofs.Laws.Bytes.{free-bit, shown-bit}
+use Rattle.touching.proofs.Laws.Bytes.{free-bit, shown-bit}
 
 pub rock-one : (b : ℕ) → b ≡ 1 → rockBit b ≡ 1
 unfolding rockBit

@@ -8,7 +8,7 @@ use Rattle.field.specs.Map.{number, at}
 use Rattle.labels.specs.declared.Labelled.{Labelled}
 use Rattle.labels.specs.Settling.{counted, worth, sumOf, total, Adding, Turned}
 use Rattle.labels.specs.Settling.{Settling, Summing, Settled, SettlingRow, SettledRow, SettlingAll, SettledAll}
-use Rattle.closing.proofs.Laws.Bytes.{row-ends}
+use Rattle.touching.proofs.Laws.Bytes.{row-ends}
 use Rattle.labels.proofs.Laws.Settling.{turned-none, turned-one, turned-on, turned-passed, turned-worth}
 use Rattle.labels.proofs.Laws.Totals.{total-none, total-next, total-same, Most, most-at, total-most, worth-most, most-one, most-adding}
 

@@ -10,10 +10,10 @@ use lib.ListN.{length, getD, set, length-set}
 use lib.Seq.{getD-set-same, getD-set-other, set-getD}
 use Rattle.field.specs.Map.{number, at}
 use Rattle.labels.specs.declared.Labelled.{Labelled}
-use Rattle.closing.specs.Work.{Shown, Free}
+use Rattle.touching.specs.Work.{Shown, Free}
 use Rattle.closing.specs.Promise.{settled}
 use Rattle.labels.specs.Settling.{counted, rockBit, shutBit, closedBit, westBit, southBit, worth, sumOf, Passed, Turned}
-use Rattle.closing.proofs.Laws.Bytes.{shown-free}
+use Rattle.touching.proofs.Laws.Bytes.{shown-free}
 use Rattle.labels.proofs.Laws.Bits.{rock-one, rock-none, shut-one, shut-none, closed-one, closed-none}
 use Rattle.closing.proofs.Laws.Draining.{settled-low, settled-high}
 

@@ -9,9 +9,9 @@ use borrow.Rule.Slice.PartMut.{midOf, putMid}
 use Rattle.field.specs.Map.{side}
 use Rattle.mapfile.specs.Raster.{rowBytes}
 use Rattle.writer.specs.Digits.{ShortNumber}
-use Rattle.writer.specs.PackingLaws.{piece-end}
+use Rattle.packing.specs.PackingLaws.{piece-end}
 use Rattle.writer.specs.FileLaws.{fileOf, file-length, file-written}
-use Rattle.writer.proofs.Filling.{Filled, filled-none, filled-lent, filled-part}
+use Rattle.packing.proofs.Filling.{Filled, filled-none, filled-lent, filled-part}
 use borrow.Author.Needs.{needs}
 use Rattle.writer.proofs.write.Statement.{statement}
 use Rattle.writer.proofs.write.Tie as tie

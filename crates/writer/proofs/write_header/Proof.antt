@@ -7,7 +7,7 @@ use lib.ListN.{length, set, length-set}
 use borrow.Rule.Slice.PartMut.{midOf, putMid}
 use Rattle.mapfile.specs.File.{raw-letters}
 use Rattle.writer.specs.Digits.{digitsOf, headerOf}
-use Rattle.writer.proofs.Filling.{Filled, filled-none, filled-length, filled-all, filled-byte, filled-lent, filled-part}
+use Rattle.packing.proofs.Filling.{Filled, filled-none, filled-length, filled-all, filled-byte, filled-lent, filled-part}
 use borrow.Author.Needs.{needs}
 use Rattle.writer.proofs.write_header.Statement.{statement}
 use Rattle.writer.proofs.write_header.Tie as tie

@@ -4,7 +4,7 @@ use native.Mathlib.Omega.{arith}
 use mathlib.Core.Path.{_≡_, sym}
 use mathlib.Core.List.{List, [], _∷_}
 use lib.ListN.{length, set}
-use Rattle.writer.proofs.Filling.{filled-none, filled-all, filled-byte}
+use Rattle.packing.proofs.Filling.{filled-none, filled-all, filled-byte}
 use borrow.Author.Needs.{needs}
 use Rattle.writer.proofs.write_letters.Statement.{statement}
 use Rattle.writer.proofs.write_letters.Tie as tie
