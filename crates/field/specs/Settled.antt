@@ -11,6 +11,7 @@ use Rattle.field.specs.Workings.Tests.{and-split}
 use Rattle.field.specs.Workings.Sheet.{lit, westOf, southOf, around, row, rowsFrom, sheet}
 use Rattle.field.specs.Workings.Closing.{closing, until, sweep, next, marks}
 use Rattle.field.specs.Workings.Stamping.{stamp, rockOf, stands}
+use Rattle.field.specs.Workings.Labelling.{labelling, labelsFrom}
 use Rattle.field.specs.Workings.Counting.{tally}
 use Rattle.field.specs.Workings.Corners.{cornerOf, groupsOf, every, rectangleOf}
 use Rattle.field.specs.Workings.Looking.{litAlong, look, clearOf, distancesOf, enoughOf, axisOf, openOf, assuredOf, hopTo}
@@ -33,7 +34,7 @@ all-hold [] e = none
 all-hold (r ∷ rs) e = let f = and-split _ _ e in one (passes-holds r (f .0)) (all-hold rs (f .1))
 
 table-passes : all-pass table ≡ true
-unfolding all-pass table gap no-distance sumTo drawn top lit westOf southOf around row rowsFrom sheet closing until sweep next marks stamp rockOf stands tally cornerOf groupsOf every rectangleOf litAlong look clearOf distancesOf enoughOf axisOf openOf assuredOf hopTo reachNext reach onWay regionOf eastWestIn northSouthIn chosenOf driveOf same rockSheet closedSheet regionSheet alone eachAlone distance-at passes
+unfolding all-pass table gap no-distance sumTo drawn top lit westOf southOf around row rowsFrom sheet closing until sweep next marks stamp rockOf stands labelling labelsFrom tally cornerOf groupsOf every rectangleOf litAlong look clearOf distancesOf enoughOf axisOf openOf assuredOf hopTo reachNext reach onWay regionOf eastWestIn northSouthIn chosenOf driveOf same rockSheet closedSheet regionSheet alone eachAlone distance-at passes
 table-passes = refl
 
 -- The settled examples 1 to 11.

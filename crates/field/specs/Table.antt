@@ -1,18 +1,22 @@
--- Document 01's settled examples 1 to 11 as one table of rows, and what it means that a row holds, said with the meanings.
+-- Document 01's settled examples 1 to 11 as one table of rows, and what it means that a row holds, said with the meanings. Only `picture` is drawn by two
+-- workings, `sheet` and `rockOf`, which a reader must believe here too.
 -- "Map 8 by 8 unless said. Those with * are the proved set." That every row holds is proved in Settled.
 use mathlib.Core.Path.{_≡_}
+use mathlib.Core.Bool.{cond}
 use mathlib.Core.List.{List, [], _∷_}
 use mathlib.Core.Logic.{_↔_}
 use Prim.Native.Nat.{ℕ, suc, _+_, _≤_}
 use lib.ListN.{length}
 use Rattle.field.specs.declared.Marker.{Marker}
 use Rattle.field.specs.Map.{On}
-use Rattle.field.specs.Labels.{Rock, RockOn, Closed, Open, Shut, Count}
+use Rattle.field.specs.Labels.{Rock, RockOn, Closed, Open, Shut, LabelSheet, Count}
 use Rattle.field.specs.Groups.{Linked, Groups}
 use Rattle.field.specs.Distances.{Way, Clear, Distances, Assured}
 use Rattle.field.specs.Drives.{ShortestDrive, HasDrive, InRegion}
 use Rattle.field.specs.Chooser.{Driven}
 use Rattle.field.specs.Geometry.Shapes.{Within}
+use Rattle.field.specs.Workings.Sheet.{sheet}
+use Rattle.field.specs.Workings.Stamping.{rockOf}
 
 -- "Map 8 by 8 unless said."
 abbrev pub wide : ℕ
@@ -40,6 +44,11 @@ RocksOn ps = Rock (markersOn ps)
 abbrev pub ClosedBy : List Place → ℕ → ℕ → Type 0
 ClosedBy ps = Closed (RocksOn ps) wide high
 
+-- A label sheet drawn from its rocks and its shut crossings: 1 on the rocks, 2 on the shut ones, and 0 elsewhere.
+abbrev pub picture : List Place → List Place → List ℕ
+picture rocks shut =
+    sheet wide high (λ x y. cond (rockOf (markersOn rocks) x y) 1 (cond (rockOf (markersOn shut) x y) 2 0))
+
 -- Each of the places is shut by the rocks.
 abbrev pub EachShut : List Place → List Place → Type 0
 EachShut rocks [] = Unit {0}
@@ -47,7 +56,7 @@ EachShut rocks (p ∷ ps) = Shut (RocksOn rocks) wide high (p .x) (p .y) × Each
 
 -- One example's claim.
 pub data Row : Type 0 where
-  -- these rocks, on as many crossings, shut each of these crossings and no more than as many, and leave so many groups and open crossings
+  -- these rocks, on as many crossings, have these shut crossings and nothing else, and so many groups and open crossings
   labels : (rocks shut : List Place) (groups opens : ℕ) → Row
   -- the group of (x₀, y₀) is x₀ to x₁ by y₀ to y₁
   group : (rocks : List Place) (x₀ x₁ y₀ y₁ : ℕ) → Row
@@ -70,7 +79,8 @@ pub data Row : Type 0 where
 -- What a row claims, in the words of the meanings.
 abbrev pub Holds : Row → Type 0
 Holds (labels rocks shut groups opens) =
-    EachShut rocks shut
+    LabelSheet (RocksOn rocks) wide high (picture rocks shut)
+    × EachShut rocks shut
     × Count wide high (RockOn (RocksOn rocks) wide high) (length rocks)
     × Count wide high (Shut (RocksOn rocks) wide high) (length shut)
     × Groups wide high (ClosedBy rocks) groups

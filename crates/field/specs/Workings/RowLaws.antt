@@ -12,12 +12,13 @@ use Rattle.field.specs.Map.{dist}
 use Rattle.field.specs.Labels.{RockOn, closed-on-map, closed-stable, Open, Shut, Count}
 use Rattle.field.specs.Groups.{Groups}
 use Rattle.field.specs.Drives.{HasDrive, InRegion, RegionSheet}
-use Rattle.field.specs.Table.{Row, labels, group, each-distance, distances, assured, not-assured, refused-9, drive, region, outside, driven, Holds, Place, wide, high, markersOn, RocksOn, ClosedBy, EachShut}
+use Rattle.field.specs.Table.{Row, labels, group, each-distance, distances, assured, not-assured, refused-9, drive, region, outside, driven, Holds, Place, wide, high, markersOn, RocksOn, ClosedBy, picture, EachShut}
 use Rattle.field.specs.Workings.Tests.{and-split, test-dec}
 use Rattle.field.specs.Workings.Sheet.{Draws, lit}
 use Rattle.field.specs.Workings.Marks.{drawn-lit, drawn-looks}
 use Rattle.field.specs.Workings.Closing.{closing-draws}
 use Rattle.field.specs.Workings.Stamping.{stamp-draws}
+use Rattle.field.specs.Workings.Labelling.{labels-labelling}
 use Rattle.field.specs.Workings.Counting.{count-marks, count-tests}
 use Rattle.field.specs.Workings.Corners.{every-two, groups-look, rectangle-looks}
 use Rattle.field.specs.Workings.Looking.{openOf}
@@ -70,9 +71,11 @@ module _ (rocks : List Place) where
   labels-hold shut groups opens e =
       let f = and-split _ _ e in
       let g = and-split _ _ (f .0) in
+      let d = and-split _ _ (g .0) in
       let k = and-split _ _ (f .1) in
       let m = and-split _ _ (k .0) in (
-        each-shut shut (g .0),
+        labels-labelling R wide high r rocks-draw (picture rocks shut) .1 (same-is _ _ (d .0)),
+        each-shut shut (d .1),
         count-marks wide high (RockOn R wide high) r rocks-draw (length rocks) .1 (eqb-true _ _ (g .1)),
         subst (Count wide high (Shut R wide high)) (sym (eqb-true _ _ (m .0)))
             (count-tests wide high (Shut R wide high) (alone r c) (λ x y o. shut-looks x y) (λ x y. test-dec (alone r c x y) (shut-looks x y))),

@@ -11,12 +11,13 @@ use lib.ListN.{length}
 use borrow.Author.Tests.{ltb-true, lt-ltb, eqb-true}
 use Rattle.field.specs.Map.{dist}
 use Rattle.field.specs.Distances.{Way, eastward, southward, westward, northward}
-use Rattle.field.specs.Table.{Row, labels, group, each-distance, distances, assured, not-assured, refused-9, drive, region, outside, driven, Place, wide, high, markersOn}
+use Rattle.field.specs.Table.{Row, labels, group, each-distance, distances, assured, not-assured, refused-9, drive, region, outside, driven, Place, wide, high, markersOn, picture}
 use Rattle.field.specs.Workings.Tests.{bit, and-split}
 use Rattle.field.specs.Workings.Sheet.{Draws, lit}
 use Rattle.field.specs.Workings.Marks.{lit-le, drawn-lit, lit-drawn, undrawn-lit}
 use Rattle.field.specs.Workings.Closing.{closing}
 use Rattle.field.specs.Workings.Stamping.{stamp}
+use Rattle.field.specs.Workings.Labelling.{labelling}
 use Rattle.field.specs.Workings.Counting.{tally}
 use Rattle.field.specs.Workings.Corners.{groupsOf, every, rectangleOf}
 use Rattle.field.specs.Workings.Looking.{clearOf, distancesOf, openOf, assuredOf}
@@ -101,7 +102,7 @@ eachAlone s t (p ∷ ps) = alone s t (p .x) (p .y) && eachAlone s t ps
 -- The tests.
 unfoldable pub passes : Row → Bool
 passes (labels rocks shut groups opens) =
-    (eachAlone (rockSheet rocks) (closedSheet rocks) shut && eqb (length rocks) (tally wide high (lit (rockSheet rocks) wide high)))
+    ((same (picture rocks shut) (labelling wide high (rockSheet rocks)) && eachAlone (rockSheet rocks) (closedSheet rocks) shut) && eqb (length rocks) (tally wide high (lit (rockSheet rocks) wide high)))
     && ((eqb (length shut) (tally wide high (λ x y. bit (alone (rockSheet rocks) (closedSheet rocks) x y)))
     && eqb groups (groupsOf (closedSheet rocks) wide high))
     && eqb opens (tally wide high (λ x y. bit (openOf (closedSheet rocks) wide high x y))))
