@@ -5,7 +5,7 @@ ghost use Rattle.field.specs.Map.{at};
 ghost use Rattle.field.specs.Workings.Looking.{hopTo};
 ghost use Rattle.sheets.specs.Promise.{Placed, Numbered, Asked, Wiped};
 
-// "its number is y × width + x".
+// "Its number is y × width + x."
 pub fn number_of(w: usize, h: usize, x: usize, y: usize) -> usize
     requires { ⌜ Placed w h x y ⌝ }
     ensures { λ r. ⌜ Numbered w h x y r ⌝ }
