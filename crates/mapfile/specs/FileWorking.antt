@@ -1,4 +1,5 @@
--- A file read whole: the map that it is, or the number of its fault. It agrees with the grammar both ways, since a file is one map or has one fault.
+-- A file read whole: the map that it is, or the number of its fault. It agrees with the grammar
+-- both ways, since a file is one map or has one fault.
 use mathlib.Core.Path.{_≡_, refl, sym, subst, _∙_}
 use mathlib.Core.List.{List, [], _∷_}
 use mathlib.Core.Logic.{_⊎_, inl, inr}

@@ -1,4 +1,5 @@
--- A header of so many numbers, read: its numbers and what follows it, or that there is none. It agrees with the grammar both ways.
+-- A header of so many numbers, read: its numbers and what follows it, or that there is none. It
+-- agrees with the grammar both ways.
 use mathlib.Core.Path.{_≡_, refl, sym, subst, _∙_}
 use mathlib.Core.List.{List, [], _∷_}
 use mathlib.Core.Option.{Option, none, some}
@@ -15,7 +16,8 @@ pub data Heading : Type 0 where
   heading : List ℕ → List ℕ → Heading
   no-heading : Heading
 
--- After the last number, its one blank byte; before what is read of the later numbers, one more; what a number's reading gives, and then the rest's.
+-- After the last number, its one blank byte; before what is read of the later numbers, one more;
+-- what a number's reading gives, and then the rest's.
 unfoldable pub lastly : Option (List ℕ) → Heading
 lastly none = no-heading
 lastly (some rest) = heading [] rest

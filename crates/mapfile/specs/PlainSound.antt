@@ -1,4 +1,5 @@
--- The verdict on a P1 raster tells it: 0 of a raster, and any other number of its first fault. What holds after the first bytes holds with them in front.
+-- The verdict on a P1 raster tells it: 0 of a raster, and any other number of its first fault. What
+-- holds after the first bytes holds with them in front.
 use mathlib.Core.Path.{_≡_, refl, sym, ap, _∙_}
 use mathlib.Core.List.{List, [], _∷_, _++_, append-assoc}
 use mathlib.Core.Logic.{_⊎_, inl, inr}

@@ -1,4 +1,5 @@
--- A test for each row of the table of small files, which the checker computes, and that a row which passes its test holds.
+-- A test for each row of the table of small files, which the checker computes, and that a row which
+-- passes its test holds.
 use mathlib.Core.Path.{_≡_, refl, sym, subst, _∙_}
 use mathlib.Core.Bool.{Bool, true, false, cond, not, _&&_, _||_, false≢true}
 use mathlib.Core.List.{List, [], _∷_, _++_}

@@ -1,4 +1,5 @@
--- Every row of the table of small lists holds of the definitions: each passes a test that the checker computes, and a row that passes its test holds.
+-- Every row of the table of small lists holds of the definitions: each passes a test that the
+-- checker computes, and a row that passes its test holds.
 use mathlib.Core.Path.{_≡_, refl}
 use mathlib.Core.Bool.{Bool, true, _&&_}
 use mathlib.Core.List.{List, [], _∷_}

@@ -1,4 +1,5 @@
--- Small marker lists as one table of rows, and what it means that a row holds, said with the meanings. That every row holds is proved in Settled.
+-- Small marker lists as one table of rows, and what it means that a row holds, said with the
+-- meanings. That every row holds is proved in Settled.
 use mathlib.Core.Path.{_≡_}
 use mathlib.Core.List.{List, [], _∷_}
 use mathlib.Core.Logic.{_↔_}
@@ -35,7 +36,8 @@ Holds (clears list count id after) =
 Holds (most n) =
     ((list : List Marker) × WellFormed wide high list n) × ((list : List Marker) → ¬ WellFormed wide high list (n + 1))
 
--- Markers that the rows are about. The junk stands past the count: it would not be well formed there, and no row looks at it.
+-- Markers that the rows are about. The junk stands past the count: it would not be well formed
+-- there, and no row looks at it.
 abbrev pub m₁ : Marker
 m₁ = marker 1 0 0
 
@@ -51,7 +53,8 @@ junk = marker 2 99 8
 -- The table. Each row has above it the sentence, or what of it, that it shows.
 unfoldable pub table : List Row
 table =
-    -- "Entering puts the marker at its place by id and moves the later ones up by one": first, between two, last, alone.
+    -- "Entering puts the marker at its place by id and moves the later ones up by one": first,
+    -- between two, last, alone.
     enters (m₃ ∷ m₅ ∷ junk ∷ junk ∷ []) 2 m₁ (m₁ ∷ m₃ ∷ m₅ ∷ junk ∷ [])
     ∷ enters (m₁ ∷ m₅ ∷ junk ∷ junk ∷ []) 2 m₃ (m₁ ∷ m₃ ∷ m₅ ∷ junk ∷ [])
     ∷ enters (m₁ ∷ m₃ ∷ junk ∷ junk ∷ []) 2 m₅ (m₁ ∷ m₃ ∷ m₅ ∷ junk ∷ [])
@@ -63,7 +66,8 @@ table =
     -- "Several markers may stand on one crossing; each is kept."
     ∷ enters (m₃ ∷ m₅ ∷ junk ∷ []) 2 (marker 4 2 5) (m₃ ∷ marker 4 2 5 ∷ m₅ ∷ [])
     ∷ clears (m₃ ∷ marker 4 2 5 ∷ m₅ ∷ []) 3 3 (marker 4 2 5 ∷ m₅ ∷ blank ∷ [])
-    -- "Clearing moves the later ones down and sets the one slot so freed to zeros": the first, one between two, the last, the only one.
+    -- "Clearing moves the later ones down and sets the one slot so freed to zeros": the first, one
+    -- between two, the last, the only one.
     ∷ clears (m₁ ∷ m₃ ∷ m₅ ∷ junk ∷ []) 3 1 (m₃ ∷ m₅ ∷ blank ∷ junk ∷ [])
     ∷ clears (m₁ ∷ m₃ ∷ m₅ ∷ junk ∷ []) 3 3 (m₁ ∷ m₅ ∷ blank ∷ junk ∷ [])
     ∷ clears (m₁ ∷ m₃ ∷ m₅ ∷ junk ∷ []) 3 5 (m₁ ∷ m₃ ∷ blank ∷ junk ∷ [])
@@ -73,7 +77,8 @@ table =
     -- "Slots past the count are never read."
     ∷ formed (junk ∷ junk ∷ []) 0
     ∷ formed (m₁ ∷ m₃ ∷ junk ∷ []) 2
-    -- Refusal 3: "count over 4,096 or over the list lent, an id 0, ids not rising, or a marker off the map".
+    -- Refusal 3: "count over 4,096 or over the list lent, an id 0, ids not rising, or a marker off
+    -- the map".
     ∷ most 4096
     ∷ not-formed (m₁ ∷ m₃ ∷ []) 3
     ∷ not-formed (marker 0 0 0 ∷ []) 1
