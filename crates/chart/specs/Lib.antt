@@ -5,4 +5,3 @@ pub mod Outcome
 pub mod Parts
 pub mod Drawing
 pub mod DrawingLaws
-pub mod CountLaws

@@ -1,6 +1,7 @@
 // Clear distances of one crossing, and whether home is assured, over a sheet that marks the closed crossings.
 mod look; // look.rt: the distance of one crossing
 
+use field::NO_DISTANCE;
 use sheets::mark;
 ghost use mathlib.Core.Path.{_≡_};
 ghost use mathlib.Core.Bool.{true};
@@ -12,7 +13,7 @@ ghost use Rattle.distances.specs.Promise.{AskedHome};
 ghost use Rattle.sheets.specs.Promise.{Asked};
 
 // What stands for a distance where there is none.
-pub const NONE: u8 = 255;
+pub const NONE: u8 = NO_DISTANCE;
 
 // The four distances of (x, y), east, south, west, north.
 pub fn distances(s: &[u8], w: usize, h: usize, x: usize, y: usize) -> [u8; 4]

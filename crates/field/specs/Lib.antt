@@ -13,3 +13,5 @@ pub mod Workings
 pub mod Geometry
 pub mod Table
 pub mod Settled
+pub mod FurtherTable
+pub mod Further

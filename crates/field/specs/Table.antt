@@ -12,6 +12,7 @@ use Rattle.field.specs.Map.{On}
 use Rattle.field.specs.Labels.{Rock, RockOn, Closed, Open, Shut, LabelSheet, Count}
 use Rattle.field.specs.Groups.{Linked, Groups}
 use Rattle.field.specs.Distances.{Way, Clear, Distances, Assured}
+use Rattle.field.specs.Hops.{HopAnswer, Answers}
 use Rattle.field.specs.Drives.{ShortestDrive, HasDrive, InRegion}
 use Rattle.field.specs.Chooser.{Driven}
 use Rattle.field.specs.Geometry.Shapes.{Within}
@@ -67,6 +68,8 @@ pub data Row : Type 0 where
   -- home (hx, hy) is assured for (x, y), or is not
   assured : (rocks : List Place) (hx hy x y : ℕ) → Row
   not-assured : (rocks : List Place) (hx hy x y : ℕ) → Row
+  -- home (hx, hy) is assured for (x, y), and a hop asked there has this answer
+  hop : (rocks : List Place) (hx hy x y : ℕ) (answer : HopAnswer) → Row
   -- from s to d: both ends open, and no shortest drive, which is refusal 9; or a shortest drive of n hops
   refused-9 : (rocks : List Place) (sx sy dx dy : ℕ) → Row
   drive : (rocks : List Place) (sx sy dx dy n : ℕ) → Row
@@ -90,6 +93,8 @@ Holds (each-distance rocks n) = (t : Way) (x y : ℕ) → On wide high x y → C
 Holds (distances rocks x y four) = Distances (ClosedBy rocks) x y four
 Holds (assured rocks hx hy x y) = Assured wide high (ClosedBy rocks) hx hy x y
 Holds (not-assured rocks hx hy x y) = ¬ Assured wide high (ClosedBy rocks) hx hy x y
+Holds (hop rocks hx hy x y answer) =
+    Assured wide high (ClosedBy rocks) hx hy x y × Answers wide high (ClosedBy rocks) hx hy x y answer
 Holds (refused-9 rocks sx sy dx dy) =
     Open wide high (ClosedBy rocks) sx sy × Open wide high (ClosedBy rocks) dx dy × (¬ HasDrive wide high (ClosedBy rocks) sx sy dx dy)
 Holds (drive rocks sx sy dx dy n) =
@@ -98,6 +103,11 @@ Holds (region rocks sx sy dx dy n) = Count wide high (InRegion wide high (Closed
 Holds (outside rocks sx sy dx dy x₀ x₁ y₀ y₁) =
     (a b : ℕ) → Within x₀ x₁ y₀ y₁ a b → ¬ InRegion wide high (ClosedBy rocks) sx sy dx dy a b
 Holds (driven rocks sx sy dx dy z route z′) = Driven wide high (ClosedBy rocks) sx sy dx dy sx sy z route z′
+
+-- Every row of a list holds.
+pub data EveryRow : List Row → Type 0 where
+  none : EveryRow []
+  one : {r : Row} {rs : List Row} → Holds r → EveryRow rs → EveryRow (r ∷ rs)
 
 abbrev pub place : ℕ → ℕ → Place
 place x y = record { x = x; y = y }

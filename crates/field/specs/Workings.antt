@@ -25,3 +25,4 @@ pub mod ChoosingLaws
 pub mod SameLaws
 pub mod RowTests
 pub mod RowLaws
+pub mod TableLaws

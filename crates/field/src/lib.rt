@@ -11,6 +11,9 @@ pub const MOST_CROSSINGS: usize = 4096;
 // "At most 4,096 are in use."
 pub const MOST_MARKERS: usize = 4096;
 
+// "... or 255 if there is none."
+pub const NO_DISTANCE: u8 = 255;
+
 // A rock marker: a sixteen-bit id and the crossing on which it stands, laid out for C.
 #[repr(C)]
 pub struct Marker {

@@ -6,7 +6,7 @@ ghost use Prim.Native.Nat.{_≤_, _+_};
 ghost use lib.ListN.{length};
 ghost use Rattle.mapfile.specs.File.{raw-letters};
 ghost use Rattle.writer.specs.Promise.{Asked, Writes};
-ghost use Rattle.writer.specs.Digits.{ShortNumber, DigitCount, digitsOf, headerOf};
+ghost use Rattle.writer.specs.Digits.{DigitCount, digitsOf, headerOf};
 
 // What writing comes to: so many bytes, or an output too short for the whole file.
 pub enum Wrote {
@@ -14,21 +14,17 @@ pub enum Wrote {
     Short,
 }
 
-// How many decimal digits a number has. Widths, heights and numbers of crossings have at most four.
+// How many decimal digits a number has: as often as ten goes into it, and one more. So 0 has one.
 pub fn digit_count(v: usize) -> usize
-    requires { ⌜ ShortNumber v ⌝ }
     ensures { λ r. ⌜ DigitCount v r ⌝ }
 {
-    if v < 10 {
-        return 1;
+    let mut n = 1;
+    let mut rest = v / 10;
+    while 0 < rest {
+        n += 1;
+        rest = rest / 10;
     }
-    if v < 100 {
-        return 2;
-    }
-    if v < 1000 {
-        return 3;
-    }
-    4
+    n
 }
 
 // One decimal digit, of a number below ten.

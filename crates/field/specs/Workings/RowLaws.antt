@@ -1,4 +1,4 @@
--- A row of the table of settled examples that passes its test holds: each test is made of workings, and each working agrees with its meaning.
+-- A row of a table that passes its test holds: each test is made of workings, and each working agrees with its meaning.
 use mathlib.Core.Path.{_≡_, sym, subst, _∙_}
 use mathlib.Core.Bool.{Bool, true, _||_, false≢true}
 use mathlib.Core.List.{List, [], _∷_}
@@ -8,14 +8,15 @@ use native.Mathlib.Omega.{arith}
 use lib.Dec.{ltb, eqb}
 use lib.ListN.{length}
 use borrow.Author.Tests.{ltb-true, eqb-true, le-ltb, not-true}
-use Rattle.field.specs.Map.{dist}
+use Rattle.field.specs.Map.{dist, side, Sides}
 use Rattle.field.specs.Labels.{RockOn, closed-on-map, closed-stable, Open, Shut, Count}
 use Rattle.field.specs.Groups.{Groups}
+use Rattle.field.specs.Hops.{HopAnswer}
 use Rattle.field.specs.Drives.{HasDrive, InRegion, RegionSheet}
-use Rattle.field.specs.Table.{Row, labels, group, each-distance, distances, assured, not-assured, refused-9, drive, region, outside, driven, Holds, Place, wide, high, markersOn, RocksOn, ClosedBy, picture, EachShut}
+use Rattle.field.specs.Table.{Row, labels, group, each-distance, distances, assured, not-assured, hop, refused-9, drive, region, outside, driven, Holds, Place, wide, high, markersOn, RocksOn, ClosedBy, picture, EachShut}
 use Rattle.field.specs.Workings.Tests.{and-split, test-dec}
 use Rattle.field.specs.Workings.Sheet.{Draws, lit}
-use Rattle.field.specs.Workings.Marks.{drawn-lit, drawn-looks}
+use Rattle.field.specs.Workings.Marks.{drawn-lit, drawn-looks, drawn-dec}
 use Rattle.field.specs.Workings.Closing.{closing-draws}
 use Rattle.field.specs.Workings.Stamping.{stamp-draws}
 use Rattle.field.specs.Workings.Labelling.{labels-labelling}
@@ -25,10 +26,17 @@ use Rattle.field.specs.Workings.Looking.{openOf}
 use Rattle.field.specs.Workings.ClearLaws.{clear-looks}
 use Rattle.field.specs.Workings.DistanceLaws.{distances-look}
 use Rattle.field.specs.Workings.AssuredLaws.{open-looks, open-dec, assured-looks}
+use Rattle.field.specs.Workings.AnswerLaws.{hop-looks}
 use Rattle.field.specs.Workings.RegionLaws.{has-drive-in, region-sheet-draws}
 use Rattle.field.specs.Workings.ReachLaws.{region-made}
 use Rattle.field.specs.Workings.ChoosingLaws.{driven-looks}
-use Rattle.field.specs.Workings.RowTests.{same-is, rockSheet, closedSheet, regionSheet, alone, alone-looks, eachAlone, distance-at, each-way, passes}
+use Rattle.field.specs.Workings.RowTests.{same-is, rockSheet, closedSheet, regionSheet, alone, alone-looks, eachAlone, distance-at, each-way, same-answer-is, passes}
+use Rattle.field.specs.Geometry.Theorems.{home-hop}
+
+-- The examples' map is one of document 01's.
+table-sides : Sides wide high
+unfolding side
+table-sides = record { some-w = omega arith; some-h = omega arith; most-w = omega arith; most-h = omega arith }
 
 module _ (rocks : List Place) where
   -- R tells the row's rocks and C its closed crossings; r and c are their sheets.
@@ -112,6 +120,16 @@ module _ (rocks : List Place) where
   unfolding passes
   not-assured-holds hx hy x y e a = false≢true (sym (not-true _ e) ∙ assured-looks wide high C c closed-draw hx hy x y .0 a)
 
+  -- A place that is assured has a permitted hop unless it is home, and so the tests tell the answer.
+  hop-holds : (hx hy x y : ℕ) (answer : HopAnswer) → passes (hop rocks hx hy x y answer) ≡ true → Holds (hop rocks hx hy x y answer)
+  unfolding passes
+  hop-holds hx hy x y answer e =
+      let f = and-split _ _ e in
+      let a = assured-looks wide high C c closed-draw hx hy x y .1 (f .0) in (
+        a,
+        hop-looks wide high C c closed-draw hx hy x y (home-hop R wide high (drawn-dec wide high C c closed-draw) table-sides hx hy a) answer .1 (same-answer-is _ _ (f .1)),
+      )
+
   -- The rows on drives. In tells the region, and g is its sheet.
   module _ (sx sy dx dy : ℕ) where
     abbrev In : ℕ → ℕ → Type 0
@@ -179,6 +197,7 @@ passes-holds (each-distance rocks n) = each-distance-holds rocks n
 passes-holds (distances rocks x y four) = distances-hold rocks x y four
 passes-holds (assured rocks hx hy x y) = assured-holds rocks hx hy x y
 passes-holds (not-assured rocks hx hy x y) = not-assured-holds rocks hx hy x y
+passes-holds (hop rocks hx hy x y answer) = hop-holds rocks hx hy x y answer
 passes-holds (refused-9 rocks sx sy dx dy) = refused-9-holds rocks sx sy dx dy
 passes-holds (drive rocks sx sy dx dy n) = drive-holds rocks sx sy dx dy n
 passes-holds (region rocks sx sy dx dy n) = region-holds rocks sx sy dx dy n
