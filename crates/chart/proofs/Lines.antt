@@ -1,30 +1,14 @@
 -- Numbers put one after the other make a line, and each takes its room at most.
 use mathlib.Core.Path.{refl, ap, _∙_}
 use mathlib.Core.List.{List, [], _∷_, _++_, append-assoc}
-use Prim.Native.Nat.{ℕ, _+_, _-_, _≤_}
+use Prim.Native.Nat.{ℕ, _+_, _≤_}
 use native.Mathlib.Omega.{arith}
-use native.Mathlib.Nat.{one-le-pow}
 use lib.ListN.{length, length-append}
-use Rattle.writer.specs.Digits.{DigitCount, digitsOf}
-use Rattle.writer.specs.DigitLaws.{digits-length, digits-all, digits-value, digits-first}
 use Rattle.labels.specs.declared.Labelled.{Labelled}
 use Rattle.packing.proofs.Filling.{Filled, filled-as}
-use Rattle.chart.specs.Promise.{number-room, Printed, Line, last-number, next-number}
+use Rattle.chart.specs.Promise.{number-room, Line, last-number, next-number}
 use Rattle.chart.specs.Parts.{Puts, NumberThen, FirstLine}
 use Rattle.chart.proofs.Putting.{put-front, front-put, filled-more}
-
--- As many digits as a number has are the number as it is printed.
-pub digits-printed : {v n : ℕ} → DigitCount v n → Printed v (digitsOf n v)
-digits-printed {v} {n} c =
-    record {
-      digits = digits-all n v;
-      some = omega (arith, digits-length n v, c .some);
-      value = digits-value n v (c .enough);
-      leading = λ l. digits-first v n c (some (omega (arith, digits-length n v)));
-    }
-  where
-    some : 2 ≤ n → 1 ≤ v
-    some l = omega (arith, c .needed l, one-le-pow (n - 1) 10 (omega arith))
 
 pub number-ends : {v mark at end : ℕ} {out after : List ℕ} → Puts (NumberThen v mark) out at after end → end ≤ at + number-room
 number-ends {v} {mark} p =

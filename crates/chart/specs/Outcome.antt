@@ -11,12 +11,9 @@ use Rattle.field.specs.Workings.Sheet.{Crossing, crossing}
 use Rattle.field.specs.Workings.Labelling.{label-one}
 use Rattle.field.specs.Workings.Counting.{count-one}
 use Rattle.field.specs.Map.{most-markers}
-use Rattle.mapfile.specs.Header.{valueFrom}
 use Rattle.mapfile.specs.File.{FileRock, MapFile, NoSlot, markersOf}
 use Rattle.mapfile.specs.FileLaws.{map-file-one, fault-one, fault-no-map}
-use Rattle.mapfile.specs.PlainLaws.{value-same, digits-shortest}
 use Rattle.chart.specs.Promise.{
-  Printed,
   Line,
   last-number,
   next-number,
@@ -34,17 +31,7 @@ use Rattle.chart.specs.Promise.{
   shown,
 }
 use Rattle.chart.specs.Parts.{Shown}
-
-printed-one : {v : ℕ} {l k : List ℕ} → Printed v l → Printed v k → l ≡ k
-printed-one {v} {l} {k} p q = go (decLt (length k) (length l)) (decLt (length l) (length k))
-  where
-    same : valueFrom 0 l ≡ valueFrom 0 k
-    same = sym (p .value) ∙ q .value
-
-    go : Dec (length k < length l) → Dec (length l < length k) → l ≡ k
-    go (yes m) d = absurd (digits-shortest l k (p .digits) (q .digits) (p .leading (omega (arith, q .some))) same m)
-    go (no m) (yes n) = absurd (digits-shortest k l (q .digits) (p .digits) (q .leading (omega (arith, p .some))) (sym same) n)
-    go (no m) (no n) = value-same 0 0 l k (p .digits) (q .digits) (omega arith) same .1
+use Rattle.chart.specs.PrintLaws.{printed-one}
 
 -- A line has a number.
 line-some : {vs l : List ℕ} → Line vs l → ¬ (vs ≡ [])

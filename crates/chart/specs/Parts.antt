@@ -1,7 +1,7 @@
 -- What the program's functions put into the output, piece by piece.
 use mathlib.Core.Path.{_≡_}
 use mathlib.Core.List.{List, [], _∷_, _++_}
-use Prim.Native.Nat.{ℕ, _+_, _*_, _<_, _≤_}
+use Prim.Native.Nat.{ℕ, _+_, _*_, _≤_}
 use lib.ListN.{length, take, drop}
 use Rattle.field.specs.Map.{side, Sides}
 use Rattle.field.specs.Labels.{Closed, RockOn, Shut, Count}

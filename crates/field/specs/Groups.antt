@@ -1,6 +1,6 @@
 -- Groups of closed crossings, how many there are, and how far two are apart. C tells the closed crossings.
 use mathlib.Core.Path.{_≡_}
-use Prim.Native.Nat.{ℕ, _+_, _≤_}
+use Prim.Native.Nat.{ℕ, _≤_}
 use Rattle.field.specs.Map.{Near, number, dist}
 use Rattle.field.specs.Labels.{Count}
 

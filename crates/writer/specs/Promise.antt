@@ -1,7 +1,7 @@
 -- The writer's promise, over a sheet on which the rocks are stamped.
 use mathlib.Core.Path.{_≡_}
 use mathlib.Core.List.{List, _++_}
-use Prim.Native.Nat.{ℕ, _*_, _<_, _≤_}
+use Prim.Native.Nat.{ℕ, _<_, _≤_}
 use lib.ListN.{length, drop}
 use Rattle.field.specs.Refusals.{success, short-output}
 use Rattle.field.specs.Workings.Sheet.{Marked}

@@ -11,7 +11,7 @@ use Rattle.writer.specs.DigitLaws.{digits-few}
 use Rattle.packing.proofs.Filling.{filled-as, filled-byte, filled-lent, filled-part}
 use Rattle.chart.specs.Parts.{Put}
 use Rattle.chart.proofs.Putting.{filled-self, filled-put}
-use Rattle.chart.proofs.Lines.{digits-printed}
+use Rattle.chart.specs.PrintLaws.{digits-printed}
 use borrow.Author.Needs.{needs}
 use Rattle.chart.proofs.put_number.Statement.{statement}
 use Rattle.chart.proofs.put_number.Tie as tie

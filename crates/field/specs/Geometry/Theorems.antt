@@ -117,9 +117,6 @@ module _ (R : ℕ → ℕ → Type 0) (w h : ℕ) (no-rocks : (x y : ℕ) → On
   pub no-rocks-none-closed : (x y : ℕ) → ¬ Closed R w h x y
   no-rocks-none-closed = smallest R w h (λ x y. ⊥) no-rocks (λ x y a b c d o n m t p q. p)
 
-  pub no-rocks-open : (x y : ℕ) → On w h x y → Open w h (Closed R w h) x y
-  no-rocks-open x y o = record { on = o; free = no-rocks-none-closed x y }
-
   -- So a sheet that labels every crossing rock or shut is not the labelling.
   pub all-closed-no-labelling : 1 ≤ w → 1 ≤ h → (s : List ℕ) → ((x y : ℕ) → On w h x y → ¬ (at s w x y ≡ 0)) → ¬ LabelSheet R w h s
   all-closed-no-labelling p q s full sheet = go (sheet .label 0 0 origin)

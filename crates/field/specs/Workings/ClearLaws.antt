@@ -119,9 +119,6 @@ module _ (w h : ℕ) (C : ℕ → ℕ → Type 0) (s : List ℕ) (D : Draws w h 
   pub clear-looks : (t : Way) (x y n : ℕ) → On w h x y → (Clear C t x y n ↔ n ≡ clearOf t s w h x y)
   clear-looks t x y n o = only (Clear C t x y) (clearOf t s w h x y) (clear-of t x y o) (λ n m. clear-one) n
 
-  pub clear-some : (t : Way) (x y : ℕ) → On w h x y → (n : ℕ) × Clear C t x y n
-  clear-some t x y o = (clearOf t s w h x y, clear-of t x y o)
-
   -- "the largest is 63": a clear distance is below the limit of the sides, or is the mark for none.
   pub clear-small : Sides w h → (t : Way) (x y n : ℕ) → On w h x y → Clear C t x y n → (n ≡ no-distance) ⊎ (n < side)
   clear-small d t x y n o (at-closed c e) = inr (omega arith)

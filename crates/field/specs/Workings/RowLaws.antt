@@ -19,7 +19,7 @@ use Rattle.field.specs.Workings.Sheet.{Draws, lit}
 use Rattle.field.specs.Workings.Marks.{drawn-lit, drawn-looks, drawn-dec}
 use Rattle.field.specs.Workings.Closing.{closing-draws}
 use Rattle.field.specs.Workings.Stamping.{stamp-draws}
-use Rattle.field.specs.Workings.Labelling.{labels-labelling}
+use Rattle.field.specs.Workings.Labelling.{labels-labelling, alone, shut-looks}
 use Rattle.field.specs.Workings.Counting.{count-marks, count-tests}
 use Rattle.field.specs.Workings.Corners.{every-two, groups-look, rectangle-looks}
 use Rattle.field.specs.Workings.Looking.{openOf}
@@ -30,7 +30,7 @@ use Rattle.field.specs.Workings.AnswerLaws.{hop-looks}
 use Rattle.field.specs.Workings.RegionLaws.{has-drive-in, region-sheet-draws}
 use Rattle.field.specs.Workings.ReachLaws.{region-made}
 use Rattle.field.specs.Workings.ChoosingLaws.{driven-looks}
-use Rattle.field.specs.Workings.RowTests.{same-is, rockSheet, closedSheet, regionSheet, alone, alone-looks, eachAlone, distance-at, each-way, same-answer-is, passes}
+use Rattle.field.specs.Workings.RowTests.{same-is, rockSheet, closedSheet, regionSheet, eachAlone, distance-at, each-way, same-answer-is, passes}
 use Rattle.field.specs.Geometry.Theorems.{home-hop}
 
 -- The examples' map is one of document 01's.
@@ -60,19 +60,13 @@ module _ (rocks : List Place) where
   unfolding closedSheet
   closed-draw = closing-draws wide high R r rocks-draw
 
-  -- Shut is closed and no rock.
-  shut-looks : (x y : ℕ) → (Shut R wide high x y ↔ alone r c x y ≡ true)
-  shut-looks x y = (
-    λ t. alone-looks rocks-draw closed-draw x y .0 (t .closed, λ k. t .bare (k .stone)),
-    λ e.
-        let k = alone-looks rocks-draw closed-draw x y .1 e in
-        record { closed = k .0; bare = λ m. k .1 (record { on = closed-on-map R wide high x y (k .0); stone = m }) },
-  )
+  shut-tells : (x y : ℕ) → (Shut R wide high x y ↔ alone wide high r c x y ≡ true)
+  shut-tells = shut-looks R wide high r c rocks-draw closed-draw
 
   each-shut : (shut : List Place) → eachAlone r c shut ≡ true → EachShut rocks shut
   unfolding eachAlone
   each-shut [] e = tt
-  each-shut (p ∷ ps) e = let f = and-split _ _ e in (shut-looks (p .x) (p .y) .1 (f .0), each-shut ps (f .1))
+  each-shut (p ∷ ps) e = let f = and-split _ _ e in (shut-tells (p .x) (p .y) .1 (f .0), each-shut ps (f .1))
 
   labels-hold : (shut : List Place) (groups opens : ℕ) → passes (labels rocks shut groups opens) ≡ true → Holds (labels rocks shut groups opens)
   unfolding passes
@@ -86,7 +80,7 @@ module _ (rocks : List Place) where
         each-shut shut (d .1),
         count-marks wide high (RockOn R wide high) r rocks-draw (length rocks) .1 (eqb-true _ _ (g .1)),
         subst (Count wide high (Shut R wide high)) (sym (eqb-true _ _ (m .0)))
-            (count-tests wide high (Shut R wide high) (alone r c) (λ x y o. shut-looks x y) (λ x y. test-dec (alone r c x y) (shut-looks x y))),
+            (count-tests wide high (Shut R wide high) (alone wide high r c) (λ x y o. shut-tells x y) (λ x y. test-dec (alone wide high r c x y) (shut-tells x y))),
         subst (Groups wide high C) (sym (eqb-true _ _ (m .1)))
             (groups-look wide high C c closed-draw (closed-on-map R wide high) (closed-stable R wide high)),
         subst (Count wide high (Open wide high C)) (sym (eqb-true _ _ (k .1)))

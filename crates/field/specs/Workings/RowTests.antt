@@ -3,22 +3,19 @@
 use mathlib.Core.Path.{_≡_, refl}
 use mathlib.Core.Bool.{Bool, true, false, not, _&&_, _||_, false≢true}
 use mathlib.Core.List.{List, [], _∷_}
-use mathlib.Core.Logic.{_↔_}
-use Prim.Native.Nat.{ℕ, suc, _<_}
-use native.Mathlib.Omega.{arith}
+use Prim.Native.Nat.{ℕ, suc}
 use lib.Dec.{ltb, eqb}
 use lib.ListN.{length}
-use borrow.Author.Tests.{ltb-true, lt-ltb, eqb-true}
+use borrow.Author.Tests.{eqb-true}
 use Rattle.field.specs.Map.{dist}
 use Rattle.field.specs.Distances.{Way, eastward, southward, westward, northward}
 use Rattle.field.specs.Hops.{HopAnswer, there, one, two}
 use Rattle.field.specs.Table.{Row, labels, group, each-distance, distances, assured, not-assured, hop, refused-9, drive, region, outside, driven, Place, wide, high, markersOn, picture}
 use Rattle.field.specs.Workings.Tests.{bit, and-split}
-use Rattle.field.specs.Workings.Sheet.{Draws, lit}
-use Rattle.field.specs.Workings.Marks.{lit-le, drawn-lit, lit-drawn, undrawn-lit}
+use Rattle.field.specs.Workings.Sheet.{lit}
 use Rattle.field.specs.Workings.Closing.{closing}
 use Rattle.field.specs.Workings.Stamping.{stamp}
-use Rattle.field.specs.Workings.Labelling.{labelling}
+use Rattle.field.specs.Workings.Labelling.{labelling, alone}
 use Rattle.field.specs.Workings.Counting.{tally}
 use Rattle.field.specs.Workings.Corners.{groupsOf, every, rectangleOf}
 use Rattle.field.specs.Workings.Looking.{clearOf, distancesOf, openOf, assuredOf, hopOf}
@@ -51,26 +48,6 @@ closedSheet ps = closing wide high (rockSheet ps)
 
 unfoldable pub regionSheet : List Place → ℕ → ℕ → ℕ → ℕ → List ℕ
 regionSheet ps sx sy dx dy = regionOf (closedSheet ps) wide high sx sy dx dy
-
--- Marked on the second sheet alone.
-unfoldable pub alone : List ℕ → List ℕ → ℕ → ℕ → Bool
-alone s t x y = ltb (lit s wide high x y) (lit t wide high x y)
-
--- What is marked on the second sheet alone is in Q and not in P.
-pub alone-looks : {P Q : ℕ → ℕ → Type 0} {s t : List ℕ} → Draws wide high P s → Draws wide high Q t → (x y : ℕ)
-    → ((Q x y × ¬ P x y) ↔ alone s t x y ≡ true)
-unfolding alone
-alone-looks {P} {Q} {s} {t} D E x y = (sound, complete)
-  where
-    sound : Q x y × ¬ P x y → ltb (lit s wide high x y) (lit t wide high x y) ≡ true
-    sound k =
-        lt-ltb (lit s wide high x y) (lit t wide high x y)
-        (omega (arith, undrawn-lit wide high P s D x y (k .1), drawn-lit wide high Q t E x y (k .0)))
-
-    complete : ltb (lit s wide high x y) (lit t wide high x y) ≡ true → Q x y × ¬ P x y
-    complete e =
-        let l : lit s wide high x y < lit t wide high x y = ltb-true _ _ e in
-        (lit-drawn wide high Q t E x y (omega arith), λ p. omega (arith, drawn-lit wide high P s D x y p, lit-le t wide high x y))
 
 -- Each distance of (x, y) is n.
 unfoldable pub distance-at : ℕ → List ℕ → ℕ → ℕ → Bool
@@ -128,13 +105,13 @@ same-answer-is (two a b c d) (two p q r s) e =
 -- Each of the places is marked on the second sheet alone.
 unfoldable pub eachAlone : List ℕ → List ℕ → List Place → Bool
 eachAlone s t [] = true
-eachAlone s t (p ∷ ps) = alone s t (p .x) (p .y) && eachAlone s t ps
+eachAlone s t (p ∷ ps) = alone wide high s t (p .x) (p .y) && eachAlone s t ps
 
 -- The tests.
 unfoldable pub passes : Row → Bool
 passes (labels rocks shut groups opens) =
     ((same (picture rocks shut) (labelling wide high (rockSheet rocks)) && eachAlone (rockSheet rocks) (closedSheet rocks) shut) && eqb (length rocks) (tally wide high (lit (rockSheet rocks) wide high)))
-    && ((eqb (length shut) (tally wide high (λ x y. bit (alone (rockSheet rocks) (closedSheet rocks) x y)))
+    && ((eqb (length shut) (tally wide high (λ x y. bit (alone wide high (rockSheet rocks) (closedSheet rocks) x y)))
     && eqb groups (groupsOf (closedSheet rocks) wide high))
     && eqb opens (tally wide high (λ x y. bit (openOf (closedSheet rocks) wide high x y))))
 passes (group rocks x₀ x₁ y₀ y₁) = rectangleOf (closedSheet rocks) wide high x₀ x₁ y₀ y₁

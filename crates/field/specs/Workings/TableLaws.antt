@@ -11,12 +11,12 @@ use Rattle.field.specs.Chooser.{drawn, top}
 use Rattle.field.specs.Workings.Sheet.{lit, westOf, southOf, around, row, rowsFrom, sheet}
 use Rattle.field.specs.Workings.Closing.{closing, until, sweep, next, marks}
 use Rattle.field.specs.Workings.Stamping.{stamp, rockOf, stands}
-use Rattle.field.specs.Workings.Labelling.{labelling, labelsFrom}
+use Rattle.field.specs.Workings.Labelling.{labelling, labelsFrom, alone}
 use Rattle.field.specs.Workings.Counting.{tally}
 use Rattle.field.specs.Workings.Corners.{cornerOf, groupsOf, every, rectangleOf}
 use Rattle.field.specs.Workings.Looking.{litAlong, look, clearOf, distancesOf, enoughOf, axisOf, openOf, assuredOf, hopTo, eastWestOf, northSouthOf, hopOf}
 use Rattle.field.specs.Workings.Reaching.{reachNext, reach, onWay, regionOf, eastWestIn, northSouthIn, chosenOf, driveOf}
-use Rattle.field.specs.Workings.RowTests.{same, rockSheet, closedSheet, regionSheet, alone, eachAlone, distance-at, same-answer, passes}
+use Rattle.field.specs.Workings.RowTests.{same, rockSheet, closedSheet, regionSheet, eachAlone, distance-at, same-answer, passes}
 
 unfoldable pub all-pass : List Row → Bool
 unfolding gap no-distance sumTo drawn top lit westOf southOf around row rowsFrom sheet closing until sweep next marks stamp rockOf stands labelling labelsFrom tally cornerOf groupsOf every rectangleOf litAlong look clearOf distancesOf enoughOf axisOf openOf assuredOf hopTo eastWestOf northSouthOf hopOf reachNext reach onWay regionOf eastWestIn northSouthIn chosenOf driveOf same rockSheet closedSheet regionSheet alone eachAlone distance-at same-answer passes

@@ -67,19 +67,10 @@ off-looks {P} b f p d = (
   cond-cases (λ t. t ≡ true → (p ≢ d) × P) (eqb p d) (λ e q. absurd (false≢true q)) (λ e q. (eqb-false p d e, f .1 q)),
 )
 
--- What a test tells can be decided, and what can be decided is told by a test.
+-- What a test tells can be decided.
 pub test-dec : {P : Type 0} (b : Bool) → (P ↔ b ≡ true) → Dec P
 test-dec true f = yes (f .1 refl)
 test-dec false f = no (λ p. false≢true (f .0 p))
-
-pub dec-test : {P : Type 0} → Dec P → (b : Bool) × (P ↔ b ≡ true)
-dec-test (yes p) = (true, ((λ q. refl), λ e. p))
-dec-test (no n) = (false, ((λ q. absurd (n q)), λ e. absurd (false≢true e)))
-
-pub sum-dec : {P Q : Type 0} → Dec P → Dec Q → Dec (P ⊎ Q)
-sum-dec (yes p) e = yes (inl p)
-sum-dec (no f) (yes q) = yes (inr q)
-sum-dec (no f) (no g) = no (elim [ inl p ↦ f p | inr q ↦ g q ])
 
 -- Where P holds of v and of one thing alone, it says of n that n is v.
 pub only : {A : Type 0} (P : A → Type 0) (v : A) → P v → ((n m : A) → P n → P m → n ≡ m) → (n : A) → (P n ↔ n ≡ v)
