@@ -4,7 +4,8 @@ use crate::Place;
 
 /// Every permitted hop homeward: to an open neighbour one hop nearer home.
 ///
-/// Whichever hops a cart takes, again and again, it is home after exactly the east-west plus north-south distance.
+/// Whichever hops a cart takes, again and again, it is home after exactly the east-west plus
+/// north-south distance.
 ///
 /// ```
 /// use grainbodkin::{Hops, Map, Markers, Place};
