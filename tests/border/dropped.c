@@ -1,4 +1,4 @@
-/* Drops a call's answer and one of the inline forms'. A compiler that is told to is meant to refuse both. */
+/* Drops a call's answer and one of the inline forms'. A compiler that is told to refuses both. */
 #include "grainbodkin.h"
 
 void drop(struct bodkin_marker *list, uint8_t *labels) {

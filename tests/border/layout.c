@@ -7,7 +7,9 @@
 #include <stdio.h>
 #include "grainbodkin.h"
 
-#define STRUCT(name) printf("%s %zu %zu\n", #name, sizeof(struct bodkin_##name), alignof(struct bodkin_##name))
+#define STRUCT(name)                                                 \
+    printf("%s %zu %zu\n", #name, sizeof(struct bodkin_##name), \
+           alignof(struct bodkin_##name))
 #define FIELD(name, field)                                                   \
     printf("%s.%s %zu %zu\n", #name, #field, offsetof(struct bodkin_##name, field), \
            sizeof(((struct bodkin_##name *)0)->field))
@@ -53,7 +55,8 @@ static void structs(void) {
 
 int main(void) {
     structs();
-    printf("side %d\nmarkers %d\nno distance %d\n", BODKIN_SIDE, BODKIN_MARKERS, BODKIN_NO_DISTANCE);
+    printf("side %d\nmarkers %d\n", BODKIN_SIDE, BODKIN_MARKERS);
+    printf("no distance %d\n", BODKIN_NO_DISTANCE);
     printf("crossings %d\nroute %d\nfile %d\n", BODKIN_CROSSINGS, BODKIN_ROUTE, BODKIN_FILE);
     printf("stack %d\n", BODKIN_STACK);
     for (int number = BODKIN_BAD_SIZE; number <= BODKIN_SHORT_OUTPUT; number++)
