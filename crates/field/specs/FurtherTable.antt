@@ -1,6 +1,6 @@
 -- A second table: claims that follow from document 01 and that none of its examples makes. Each row fixes something that the examples leave open,
 -- so that a definition and its working, or the code, could be wrong alike and the first table would still hold. The values come from document 01's
--- sentences, by hand. That every row holds is proved in Further.
+-- sentences, and not from the workings. That every row holds is proved in Further.
 use mathlib.Core.List.{List, [], _∷_}
 use Rattle.field.specs.Hops.{there, one, two}
 use Rattle.field.specs.Table.{Row, labels, distances, assured, not-assured, hop, refused-9, drive, region, driven, Place, place, R}
