@@ -47,7 +47,7 @@ module _ {M : Type 1} (𝓤 : URA M) (H : Heap 𝓤) (A : Atoms 𝓤) (W : Given
   abbrev vsheet : Val
   vsheet = sliceVal (i′, o′) (length old)
 
-  abbrev to-prepare : ℕ → GName → Promised 𝓤 H A prepare.ended (PrepareC 𝓤 H A mem run) .Ghost
+  abbrev pub to-prepare : ℕ → GName → Promised 𝓤 H A prepare.ended (PrepareC 𝓤 H A mem run) .Ghost
   to-prepare ν δ = (
     (
       (κ, (ν ∷ [], tt)),
