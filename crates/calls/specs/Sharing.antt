@@ -18,7 +18,6 @@ use Rattle.field.specs.Workings.Sheet.{number-lt, Crossing, crossing}
 use Rattle.markers.specs.List.{slot, WellFormed}
 use Rattle.markers.specs.Laws.Rocks.{Stands, rock-stands, stands-rock}
 use Rattle.markers.specs.Laws.Stamping.{Stamping, stamping-start, stamping-more}
-use Rattle.records.specs.Promise.{StampedWith}
 use Rattle.calls.specs.Rules.{Shared}
 
 -- A mark set where there is none is one mark more, and where there is one it is the same.
@@ -156,54 +155,12 @@ module _ (w h : ℕ) (list : List Marker) where
       go t (yes m) = told-again k on m (told-most t)
       go t (no m) = told-new k on (omega arith) t
 
-  module _ (count : ℕ) (sheet : List ℕ) (formed : WellFormed w h list count) (stamped : StampedWith w h list count sheet) where
-    -- The stamped sheet has the marks of the markers in use.
-    sheet-marks : marks sheet ≡ marks (drawn count)
-    sheet-marks = omega (arith, marks-mono sheet (drawn count) long there, marks-mono (drawn count) sheet (sym long) back)
-      where
-        s : Stamping w h x-of y-of count (drawn count)
-        s = drawn-is count (formed .on)
-
-        long : length sheet ≡ length (drawn count)
-        long = stamped .size ∙ sym (s .size)
-
-        there-at : (i : ℕ) → Crossing w h i → 0 < getD sheet i 0 → 0 < getD (drawn count) i 0
-        there-at i c m =
-            let r = stamped .rocks .sound (c .x) (c .y) (record { on = c .on; mark = rw (c .is) m }) in
-            rw (c .is) at (drawn-stands count (c .x) (c .y) (formed .on) (rock-stands list count (c .x) (c .y) (r .stone)))
-
-        there : Among sheet (drawn count)
-        there i l m = there-at i (crossing w h i (omega (arith, stamped .size))) m
-
-        back-at : (i : ℕ) → Crossing w h i → 0 < getD (drawn count) i 0 → 0 < getD sheet i 0
-        back-at i c m =
-            let r = stands-rock list count (c .x) (c .y) (formed .lent) (stands-drawn count (c .x) (c .y) (formed .on) (c .on) (rw (c .is) m)) in
-            rw (c .is) at (stamped .rocks .complete (c .x) (c .y) (record { on = c .on; stone = r }) .mark)
-
-        back : Among (drawn count) sheet
-        back i l m = back-at i (crossing w h i (omega (arith, s .size))) m
-
-    distinct : Distinct count → Shared list count → ⊥
-    distinct d t = go (decLt (t .j) (t .k))
-      where
-        go : Dec (t .j < t .k) → ⊥
-        go (yes l) = d (t .j) (t .k) l (t .k-below) (t .x) (t .y)
-        go (no l) = d (t .k) (t .j) (omega (arith, t .two)) (t .j-below) (sym (t .x)) (sym (t .y))
-
-    -- As many marks as markers: no two share a crossing. Another number: two do.
-    pub marks-apart : marks sheet ≡ count → ¬ Shared list count
-    marks-apart e = go (told count (formed .on))
-      where
-        go : Told count (marks (drawn count)) → ¬ Shared list count
-        go (inl t) = distinct (t .1)
-        go (inr t) = absurd (omega (arith, t .0, sheet-marks))
-
-    pub marks-shared : ¬ (marks sheet ≡ count) → Shared list count
-    marks-shared e = go (told count (formed .on))
-      where
-        go : Told count (marks (drawn count)) → Shared list count
-        go (inl t) = absurd (e (sheet-marks ∙ t .0))
-        go (inr t) = t .1
+  distinct : {count : ℕ} → Distinct count → Shared list count → ⊥
+  distinct d t = go (decLt (t .j) (t .k))
+    where
+      go : Dec (t .j < t .k) → ⊥
+      go (yes l) = d (t .j) (t .k) l (t .k-below) (t .x) (t .y)
+      go (no l) = d (t .k) (t .j) (omega (arith, t .two)) (t .j-below) (sym (t .x)) (sym (t .y))
 
 -- Lists whose markers stand on the same crossings of the map, each list with no two markers on one of them, have as many markers: each has as many as
 -- there are marks, and the marks are the same.
