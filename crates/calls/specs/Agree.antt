@@ -15,7 +15,7 @@ use Rattle.field.specs.Refusals.{bad-size, bad-sheet, bad-list, no-drive}
 use Rattle.markers.specs.List.{slot, WellFormed, InUse, Entered, Cleared, inUse}
 use Rattle.markers.specs.Laws.Rising.{RisingIds, id-one}
 use Rattle.markers.specs.Laws.Moves.{entered-above}
-use Rattle.calls.specs.Rules.{LentMap, lent, Sized, Formed, markersIn, RocksOf, ClosedBy, Shared}
+use Rattle.calls.specs.Rules.{LentMap, lentMap, Sized, Formed, markersIn, RocksOf, ClosedBy, Shared}
 use Rattle.calls.specs.RuleLaws.{formed-holds}
 use Rattle.calls.specs.Answers.{Early, LabelsAfter, DistancesAfter, RegionAfter, RouteAfter}
 
@@ -81,7 +81,7 @@ module _ {list other : List Marker} {count : ℕ} where
 
 -- The same map with another list.
 abbrev pub with-list : LentMap → List Marker → LentMap
-with-list m other = lent other (m .count) (m .width) (m .height)
+with-list m other = lentMap other (m .count) (m .width) (m .height)
 
 -- The table of an asking, opened: 1, 2, 3, and what its own rows give.
 abbrev pub AskingGives : LentMap → Type 0 → Type 0 → ℕ → Type 0

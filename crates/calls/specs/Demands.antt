@@ -25,7 +25,7 @@ use Rattle.markers.specs.List.{Same, Times}
 use Rattle.markers.specs.Promise.{marker}
 use Rattle.markers.specs.Theorems
 use Rattle.markers.specs.Laws.Reached.{empty-formed}
-use Rattle.calls.specs.Rules.{LentMap, lent, Sized, Formed, markersIn, ClosedBy}
+use Rattle.calls.specs.Rules.{LentMap, lentMap, Sized, Formed, markersIn, ClosedBy}
 use Rattle.calls.specs.Calls.{EnterCall, ClearCall, LabelCall, AssuredCall, HopCall, RegionCall, DriveCall}
 use Rattle.calls.specs.Sequences.{GoesOn, Calls, Sparing, Names, SaysThere, Journey, move}
 use Rattle.calls.specs.ListCalls
@@ -42,7 +42,7 @@ use Rattle.calls.specs.declared.Homeward.{Homeward}
 use Rattle.calls.specs.declared.Drove.{Drove}
 
 -- The list, after any sequence of enter, clear and read calls. A list with nothing in use is a start, whatever its slots hold.
-pub empty-start : (list : List Marker) (w h : ℕ) → Calls (lent list 0 w h)
+pub empty-start : (list : List Marker) (w h : ℕ) → Calls (lentMap list 0 w h)
 empty-start list w h = Calls.start (empty-formed w h list 0 refl)
 
 module _ {m : LentMap} (calls : Calls m) where

@@ -12,8 +12,8 @@ pub record LentMap : Type 0 where
   pub width : ℕ
   pub height : ℕ
 
-abbrev pub lent : List Marker → ℕ → ℕ → ℕ → LentMap
-lent list count w h = record { list = list; count = count; width = w; height = h }
+abbrev pub lentMap : List Marker → ℕ → ℕ → ℕ → LentMap
+lentMap list count w h = record { list = list; count = count; width = w; height = h }
 
 -- Its size is within the limits; a place is on it; its list is well formed.
 abbrev pub Sized : LentMap → Type 0

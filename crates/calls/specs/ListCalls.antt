@@ -15,7 +15,7 @@ use Rattle.markers.specs.Reached
 use Rattle.markers.specs.Reached.{Reached}
 use Rattle.markers.specs.Laws.Times.{times-some, times-one, times-fresh, entered-other, entered-once, cleared-other, cleared-gone}
 use Rattle.calls.specs.Rules
-use Rattle.calls.specs.Rules.{LentMap, lent, OnIt, Formed, markersIn}
+use Rattle.calls.specs.Rules.{LentMap, lentMap, OnIt, Formed, markersIn}
 use Rattle.calls.specs.RuleLaws.{gives-none, holds, on-holds, formed-holds}
 use Rattle.calls.specs.Calls.{EnterCall, ClearCall, ReadCall}
 use Rattle.calls.specs.Sequences.{GoesOn, Calls, start, enter, clear, read, Sparing}

@@ -14,7 +14,7 @@ use Rattle.field.specs.Drives.{HasDrive}
 use Rattle.markers.specs.List.{slot, InUse}
 use Rattle.mapfile.specs.Written.{Written}
 pub use Rattle.calls.specs.Rule.{Rule, rule, Gives, gives-one}
-pub use Rattle.calls.specs.LentMap.{LentMap, lent, Sized, OnIt, Formed, markersIn, RocksOf, ClosedBy}
+pub use Rattle.calls.specs.LentMap.{LentMap, lentMap, Sized, OnIt, Formed, markersIn, RocksOf, ClosedBy}
 
 -- 1: "width or height is 0 or over 64"
 abbrev pub size-rule : LentMap → Rule

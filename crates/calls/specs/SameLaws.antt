@@ -79,10 +79,10 @@ module _ (w h : ℕ) {C D : ℕ → ℕ → Type 0} (a : Alike C D) where
   no-way-both = (
     λ k. record { from = open-same w h a (k .from); to = open-same w h a (k .to); none = λ v. k .none (has-drive-same w h (alike-back a) v) },
     λ k. record {
-        from = open-same w h (alike-back a) (k .from);
-        to = open-same w h (alike-back a) (k .to);
-        none = λ v. k .none (has-drive-same w h a v);
-      },
+      from = open-same w h (alike-back a) (k .from);
+      to = open-same w h (alike-back a) (k .to);
+      none = λ v. k .none (has-drive-same w h a v);
+    },
   )
 
   pub assured-rows-same : {hx hy x y : ℕ} → Reworded (assured-rows C hx hy x y) (assured-rows D hx hy x y)

@@ -4,7 +4,7 @@ use mathlib.Core.List.{List}
 use mathlib.Core.Logic.{_⊎_}
 use Prim.Native.Nat.{ℕ, _+_, _≤_}
 use Rattle.field.specs.declared.Marker.{Marker}
-use Rattle.calls.specs.Rules.{LentMap, lent, Formed}
+use Rattle.calls.specs.Rules.{LentMap, lentMap, Formed}
 use Rattle.calls.specs.Answers.{read-map}
 use Rattle.calls.specs.Calls.{EnterCall, ClearCall, HopCall, ReadCall}
 use Rattle.calls.specs.declared.Counted.{Counted}
@@ -14,7 +14,7 @@ use Rattle.calls.specs.declared.ReadMap.{ReadMap}
 -- What the caller goes on with after entering or clearing: the list as the call left it, with the count that was handed back, on the same map; or what
 -- was lent, where the call was refused.
 pub record GoesOn (m : LentMap) (after : List Marker) (r : Counted) (next : LentMap) : Type 0 where
-  pub new : r .refusal ≡ 0 → next ≡ lent after (r .count) (m .width) (m .height)
+  pub new : r .refusal ≡ 0 → next ≡ lentMap after (r .count) (m .width) (m .height)
   pub old : ¬ (r .refusal ≡ 0) → next ≡ m
 
 -- And after reading: the map that was read, with the count, the width and the height that were handed back.

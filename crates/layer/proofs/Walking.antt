@@ -45,6 +45,7 @@ use Rattle.walks.specs.Lending.{lent}
 use Rattle.walks.specs.Meeting.{Promised}
 use Rattle.walks.specs.Forms.{Form, Lent, sheet, cell, shown, lents, nums, num-spells, count, others-of, others-vals, others-are, labels-room, calling, calling-params, answering, answering-params, labels-of, answer-args, answer-vals, call-lasts}
 use Rattle.walks.specs.Asks.{vals, passed, labels-at, labels-token, list-token, list-at, other-tokens, others-at, ending, begins, answered}
+use Rattle.calls.specs.Rules.{lentMap}
 use Rattle.layer.specs.Prepared.{Prepared}
 use Rattle.layer.proofs.Asking.{PrepareC, prepares, to-prepare}
 use Rattle.layer.proofs.prepare as prepare
@@ -234,7 +235,7 @@ module _ {M : Type 1} (𝓤 : URA M) (H : Heap 𝓤) (A : Atoms 𝓤) (W : Given
   Answer κs a n s = Lasts (answering F) (κs .1) (answer-args T.the-row F κs a n s)
 
   abbrev prepared : (κs : Lifetimes) → Arguments κs → Asked → Bool → ℕ → List ℕ → Type 0
-  prepared κs a k others n s = Prepared (a .0 .now) (a .1 .0) (k .w) (k .h) (k .x) (k .y) (k .a) (k .b) others (labels-of T.the-row F κs a .now) s n
+  prepared κs a k others n s = Prepared (lentMap (a .0 .now) (a .1 .0) (k .w) (k .h)) (k .x) (k .y) (k .a) (k .b) others (labels-of T.the-row F κs a .now) s n
 
   -- The context before the first call, but for the locals.
   abbrev at-hand : (κs : Lifetimes) → Tokens → Arguments κs → List (Item 𝓤) → List (Item 𝓤)

@@ -1,8 +1,8 @@
 -- `bodkin_assured` meets its contract: the walk of every asking (`Walking.antt`), at its form.
 use Rattle.layer.proofs.Prelude.{refl, [], _∷_, w64, emp, factI, givenOf, tables, tablesOf, tripleOf, entered, cited, Form, Promised, asks-plainly, prepare-known, at}
 use denote.Struct.Laws as LL
-use Rattle.answers.proofs.Assurance as R
-use Rattle.answers.proofs.Assurance.Laws as R′
+use Rattle.calls.proofs.Assurance as R
+use Rattle.calls.proofs.Assurance.Laws as R′
 use Rattle.askings.proofs.assured as rest
 use Rattle.askings.proofs.assured.Symbol as rest-def
 use Rattle.askings.proofs.assured.Symbol.{name as #rest}

@@ -1,8 +1,8 @@
 -- `bodkin_distances` meets its contract: the walk of every asking (`Walking.antt`), at its form.
 use Rattle.layer.proofs.Prelude.{refl, [], _∷_, w64, emp, factI, givenOf, tables, tablesOf, tripleOf, entered, cited, Form, Promised, asks-plainly, prepare-known, at}
 use denote.Struct.Laws as LL
-use Rattle.askings.proofs.Four as R
-use Rattle.askings.proofs.Four.Laws as R′
+use Rattle.calls.proofs.Four as R
+use Rattle.calls.proofs.Four.Laws as R′
 use Rattle.askings.proofs.distances as rest
 use Rattle.askings.proofs.distances.Symbol as rest-def
 use Rattle.askings.proofs.distances.Symbol.{name as #rest}

@@ -1,8 +1,8 @@
 -- `bodkin_drive` meets its contract: the walk of every asking that judges other sheets (`Walking.antt`), at its form.
 use Rattle.layer.proofs.Prelude.{true, _↔_, _≡_, refl, [], _∷_, length, w64, emp, id⊢, factI, givenOf, tables, tablesOf, u8, u16, u32, tripleOf, entered, cited, Form, sheet, cell, Promised, asks-judging, prepare-known, beside, at}
 use denote.Struct.Laws as LL
-use Rattle.answers.proofs.Drove as R
-use Rattle.answers.proofs.Drove.Laws as R′
+use Rattle.calls.proofs.Drove as R
+use Rattle.calls.proofs.Drove.Laws as R′
 use Rattle.askings.proofs.drive as rest
 use Rattle.askings.proofs.drive.Symbol as rest-def
 use Rattle.askings.proofs.drive.Symbol.{name as #rest}

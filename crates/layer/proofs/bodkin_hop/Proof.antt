@@ -1,14 +1,13 @@
 -- `bodkin_hop` meets its contract: the walk of every asking (`Walking.antt`), at its form.
 use Rattle.layer.proofs.Prelude.{refl, [], _∷_, w64, emp, factI, givenOf, tables, tablesOf, tripleOf, entered, cited, Form, Promised, asks-plainly, prepare-known, at}
 use denote.Struct.Laws as LL
-use Rattle.answers.proofs.Homeward as R
-use Rattle.answers.proofs.Homeward.Laws as R′
+use Rattle.calls.proofs.Homeward as R
+use Rattle.calls.proofs.Homeward.Laws as R′
 use Rattle.askings.proofs.hop as rest
 use Rattle.askings.proofs.hop.Symbol as rest-def
 use Rattle.askings.proofs.hop.Symbol.{name as #rest}
 use Rattle.askings.proofs.hop.Met as rest-thm
-use Rattle.layer.proofs.LabelAnswers.{ends-may}
-use Rattle.layer.proofs.DriveAnswers.{hop-joined}
+use Rattle.layer.proofs.LabelAnswers.{ends-may, hop-joined}
 use Rattle.layer.proofs.bodkin_hop.Key.{name as #this}
 use Rattle.layer.proofs.bodkin_hop as this
 use Rattle.layer.proofs.bodkin_hop.Statement as stated

@@ -1,8 +1,8 @@
 -- `bodkin_label` meets its contract: the walk of every asking (`Walking.antt`), at its form.
 use Rattle.layer.proofs.Prelude.{refl, [], _∷_, w64, emp, factI, givenOf, tables, tablesOf, tripleOf, entered, cited, Form, Promised, asks-plainly, prepare-known, nought}
 use denote.Struct.Laws as LL
-use Rattle.askings.proofs.Labelling as R
-use Rattle.askings.proofs.Labelling.Laws as R′
+use Rattle.calls.proofs.Labelling as R
+use Rattle.calls.proofs.Labelling.Laws as R′
 use Rattle.askings.proofs.label as rest
 use Rattle.askings.proofs.label.Symbol as rest-def
 use Rattle.askings.proofs.label.Symbol.{name as #rest}

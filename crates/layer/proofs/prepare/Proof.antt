@@ -18,7 +18,7 @@ use Rattle.records.proofs.stamp as stamp
 use Rattle.records.proofs.stamp.Symbol as stamp-def
 use Rattle.records.proofs.stamp.Symbol.{name as #stamp}
 use Rattle.records.proofs.stamp.Met as stamp-thm
-use Rattle.calls.specs.Rules.{Gives}
+use Rattle.calls.specs.Rules.{Gives, lentMap}
 use Rattle.judging.specs.Judging.{asking-judged}
 use Rattle.layer.specs.Prepared.{Prepared, asking-found}
 use Rattle.layer.proofs.Tables.{asking-gives, asking-good}
@@ -67,7 +67,7 @@ module _ {M : Type 1} (𝓤 : URA M) (H : Heap 𝓤) (A : Atoms 𝓤) (W : Given
   abbrev Δ : List ℕ → List (Item 𝓤)
   Δ s = (‵ (flft κ q) ⊛ ‵ ftrue) ∷ ‵ (mutOwn κ′ u8 i′ o′ γ′ s (vsheet ∷ [])) ∷ ‵ (flft κ′ q′) ∷ []
 
-  exits : (r : ℕ) (s : List ℕ) → r < 2 ^ 8 → length s ≡ length old → Prepared ys count w h x y a b others old s r → ent 𝓤 (⋆ 𝓤 H A (Δ s)) (Post (vint w8 r))
+  exits : (r : ℕ) (s : List ℕ) → r < 2 ^ 8 → length s ≡ length old → Prepared (lentMap ys count w h) x y a b others old s r → ent 𝓤 (⋆ 𝓤 H A (Δ s)) (Post (vint w8 r))
   exits r s fr len e =
       qed W (Δ s) ∵ split ! $ move ! (3 ∷ 1 ∷ []) $ join ! $ move ! (1 ∷ 0 ∷ []) $ join ! $ move ! (1 ∷ []) $
       says-last ! u8 i′ o′ old s (vsheet ∷ []) len $ move ! (1 ∷ 0 ∷ []) $
@@ -166,9 +166,9 @@ module _ {M : Type 1} (𝓤 : URA M) (H : Heap 𝓤) (A : Atoms 𝓤) (W : Given
         sets ! (of-opd ! (var ! 16 refl)) 4 refl (tt, record { fits = fn .1 }) $ move ! (1 ∷ []) $ drop ! $ gives ! Post (look ! 3 refl) $
         leaves ! (Δ old) (held _ ∷ held _ ∷ held _ ∷ held _ ∷ held _ ∷ held _ ∷ held _ ∷ held _ ∷ held _ ∷ held _ ∷ held _ ∷ held _ ∷ held _ ∷ held _ ∷ held _ ∷ [])
         (exits n old (fn .1) refl
-        (record { given = asking-gives ys count w h well is-well x y a b others old n e; refused = λ _. refl; stamped = λ z. absurd (not-zero n test z) })))
+        (record { given = asking-gives (lentMap ys count w h) well is-well x y a b others old n e; refused = λ _. refl; stamped = λ z. absurd (not-zero n test z) })))
         (λ test. let z : n ≡ 0 = is-zero n test in
-        let may : MayStamp w h ys count old = asking-good ys count w h well is-well x y a b others old n e z in
+        let may : MayStamp w h ys count old = asking-good (lentMap ys count w h) well is-well x y a b others old n e z in
         -- stamp, with the sheet lent again
         relends ! 14 20 21 refl refl refl refl refl (tt, tt) refl refl refl (tt, (tt, (record { fits = room′ .0 }, tt))) $
         move ! (2 ∷ 3 ∷ []) $ lends ! tt u8 i′ o′ old (vsheet ∷ []) (λ known ν δ.
@@ -188,7 +188,7 @@ module _ {M : Type 1} (𝓤 : URA M) (H : Heap 𝓤) (A : Atoms 𝓤) (W : Given
         leaves ! (Δ (ws .1 .1 .1 .1 .0))
         (held _ ∷ held _ ∷ held _ ∷ held _ ∷ held _ ∷ held _ ∷ held _ ∷ held _ ∷ held _ ∷ held _ ∷ held _ ∷ held _ ∷ held _ ∷ held _ ∷ held _ ∷ held _ ∷ held _ ∷ held _ ∷ [])
         (exits 0 (ws .1 .1 .1 .1 .0) (lit< tt) len
-        (record { given = subst (Gives (asking-found ys count w h x y a b others old)) z (asking-gives ys count w h well is-well x y a b others old n e); refused = λ f. absurd (f refl); stamped = λ _. done })))))))))
+        (record { given = subst (Gives (asking-found (lentMap ys count w h) x y a b others old)) z (asking-gives (lentMap ys count w h) well is-well x y a b others old n e); refused = λ f. absurd (f refl); stamped = λ _. done })))))))))
 
 module _ {M : Type 1} (𝓤 : URA M) (H : Heap 𝓤) (A : Atoms 𝓤) (W : Given 𝓤 H A) (mem : Memory → SProp 𝓤) (run : Routine → Fun 𝓤) (𝓣 : Tables 𝓤 H)
     (known-formed : Triple 𝓤 (𝓣 .C #well-formed) (Promised 𝓤 H A formed.ended (formed.clauses 𝓤 H A mem run)))

@@ -21,7 +21,7 @@ use Rattle.records.proofs.place_of as place
 use Rattle.records.proofs.place_of.Symbol as place-def
 use Rattle.records.proofs.place_of.Symbol.{name as #place-of}
 use Rattle.records.proofs.place_of.Met as place-thm
-use Rattle.calls.specs.Rules.{Gives}
+use Rattle.calls.specs.Rules.{Gives, lentMap}
 use Rattle.judging.specs.Judging.{list-judged, FoundAt}
 use Rattle.layer.specs.Prepared.{found-table}
 use Rattle.layer.proofs.Tables.{list-gives, list-good}
@@ -68,7 +68,7 @@ module _ {M : Type 1} (𝓤 : URA M) (H : Heap 𝓤) (A : Atoms 𝓤) (W : Given
   abbrev token : Item 𝓤
   token = ‵ (flft κ q) ⊛ ‵ ftrue
 
-  exits : (r : ℕ) → r < 2 ^ 8 → Gives (found-table ys count w h id) r → ent 𝓤 (⋆ 𝓤 H A (token ∷ [])) (Post (vint w8 r))
+  exits : (r : ℕ) → r < 2 ^ 8 → Gives (found-table (lentMap ys count w h) id) r → ent 𝓤 (⋆ 𝓤 H A (token ∷ [])) (Post (vint w8 r))
   exits r fr e =
       ends-with W this.ended C₀ here (vint w8 r) r (tt, (tt, (tt, (tt, (tt, tt))))) _ refl e (false ∷ false ∷ false ∷ false ∷ false ∷ []) token refl
       (refl, (refl, (refl, (refl, (refl, tt))))) (uint-makes 𝓤 H A W w8) (refl, fr)
@@ -128,8 +128,8 @@ module _ {M : Type 1} (𝓤 : URA M) (H : Heap 𝓤) (A : Atoms 𝓤) (W : Given
         (λ test.
         sets ! (of-opd ! (var ! 9 refl)) 2 refl (tt, record { fits = fn .1 }) $ move ! (1 ∷ []) $ drop ! $ gives ! Post (look ! 1 refl) $
         leaves ! (token ∷ []) (held _ ∷ held _ ∷ held _ ∷ held _ ∷ held _ ∷ held _ ∷ held _ ∷ held _ ∷ none ∷ held _ ∷ [])
-        (exits n (fn .1) (list-gives ys count w h well is-well id n e (not-zero n test))))
-        (λ test. let good : (¬ ¬ Sides w h) × WellFormed w h ys count = list-good ys count w h well is-well n e (is-zero n test) in
+        (exits n (fn .1) (list-gives (lentMap ys count w h) well is-well id n e (not-zero n test))))
+        (λ test. let good : (¬ ¬ Sides w h) × WellFormed w h ys count = list-good (lentMap ys count w h) well is-well n e (is-zero n test) in
         -- place_of
         move ! (1 ∷ []) $ doubles ! T.the-row i o ys (vlist ∷ []) $ move ! (2 ∷ 0 ∷ []) $
         hands W place.ended PlaceC to-place (true ∷ false ∷ false ∷ []) token refl ((num, (refl, fc)), ((uint-makes 𝓤 H A W w16, (refl, fi)), tt)) (factI 𝓤 _ (emp 𝓤) (rising-of (good .1))) $

@@ -13,13 +13,13 @@ use Rattle.field.specs.Map.{side}
 use Rattle.field.proofs.Marker as T
 use Rattle.mapfile.specs.File.{markersOf}
 use Rattle.walks.specs.Arrays.{lit-big, zeros, zeros-length, makes-array, room-again}
-use Rattle.exchange.specs.declared.ReadMap.{ReadMap}
+use Rattle.calls.specs.declared.ReadMap.{ReadMap}
 use Rattle.exchange.specs.Promise.{ReadFirst}
 use Rattle.layer.specs.Files.{putIn}
 use Rattle.calls.specs.Calls.{ReadCall}
 use Rattle.layer.specs.Reading.{may-put, read-call}
-use Rattle.exchange.proofs.ReadMap as TR
-use Rattle.exchange.proofs.ReadMap.Laws as TR′
+use Rattle.calls.proofs.ReadMap as TR
+use Rattle.calls.proofs.ReadMap.Laws as TR′
 use Rattle.exchange.proofs.read_bits as first
 use Rattle.exchange.proofs.read_bits.Symbol as first-def
 use Rattle.exchange.proofs.read_bits.Symbol.{name as #first}

@@ -14,13 +14,14 @@ use Rattle.field.specs.declared.Marker.{Marker}
 use Rattle.field.specs.Map.{side}
 use Rattle.field.proofs.Marker as T
 use Rattle.walks.specs.Arrays.{zeros, zeros-length, makes-array, room-again, parts, joins}
-use Rattle.exchange.specs.declared.WroteMap.{WroteMap}
+use Rattle.calls.specs.declared.WroteMap.{WroteMap}
 use Rattle.layer.specs.Prepared.{Prepared}
 use Rattle.exchange.specs.Promise.{Area, WriteRest}
+use Rattle.calls.specs.Rules.{lentMap}
 use Rattle.calls.specs.Calls.{WriteCall}
 use Rattle.layer.specs.Writing.{may-write, write-call}
-use Rattle.exchange.proofs.WroteMap as TW
-use Rattle.exchange.proofs.WroteMap.Laws as TW′
+use Rattle.calls.proofs.WroteMap as TW
+use Rattle.calls.proofs.WroteMap.Laws as TW′
 use Rattle.exchange.proofs.area as area
 use Rattle.exchange.proofs.area.Symbol as area-def
 use Rattle.exchange.proofs.area.Symbol.{name as #area}
@@ -95,7 +96,7 @@ module _ {M : Type 1} (𝓤 : URA M) (H : Heap 𝓤) (A : Atoms 𝓤) (W : Given
   abbrev Δ : List ℕ → List (Item 𝓤)
   Δ new = tokens ∷ ‵ (lastly u8 γ′ old new) ∷ []
 
-  exits : (r : WroteMap) (new : List ℕ) → WriteCall ys count w h old new r → Is TW.the-row r (answer r ∷ []) → ent 𝓤 (⋆ 𝓤 H A (Δ new)) (Post (answer r))
+  exits : (r : WroteMap) (new : List ℕ) → WriteCall (lentMap ys count w h) old new r → Is TW.the-row r (answer r ∷ []) → ent 𝓤 (⋆ 𝓤 H A (Δ new)) (Post (answer r))
   exits r new e is =
       ends-with W this.ended C₀ y (answer r) r (tt, (tt, (tt, (tt, (new, tt))))) _ refl e (false ∷ false ∷ false ∷ false ∷ true ∷ []) tokens refl
       (refl, (refl, (refl, (refl, tt)))) (LL.makes TW.the-type TW′.the-plain 𝓤 H A) is
@@ -189,7 +190,7 @@ module _ {M : Type 1} (𝓤 : URA M) (H : Heap 𝓤) (A : Atoms 𝓤) (W : Given
           ),
         ) (id⊢ 𝓤 (emp 𝓤)) $
         called ! (fmOf 𝓤 H (W .laws) 𝓣) prepare.ended PrepareC known-prepare (to-prepare (bs .1 .1 .1 .1 .1 .1 .0) s ν δ) (‵ (flft κ q) ⊛ ‵ (flft (ν ∷ []) fullShare) ⊛ ‵ ftrue) refl (vint w8) (uint-tells w8)
-        (λ n ws. Prepared ys count w h 0 0 0 0 true (take s (zeros crossing-slots)) (ws .1 .1 .1 .1 .1 .1 .1 .1 .1 .0) n) (λ _ _. refl)
+        (λ n ws. Prepared (lentMap ys count w h) 0 0 0 0 true (take s (zeros crossing-slots)) (ws .1 .1 .1 .1 .1 .1 .1 .1 .1 .0) n) (λ _ _. refl)
         (and-then ! (load ! (from ! (stop !)) (look ! 6 refl)) (and-then ! (load ! (from ! (stop !)) (look ! 7 refl)) (and-then ! (load ! (from ! (stop !)) (look ! 8 refl)) (and-then ! (load ! (from ! (stop !)) (look ! 9 refl)) (and-then ! (lit ! tt) (and-then ! (lit ! tt) (and-then ! (lit ! tt) (and-then ! (lit ! tt) (and-then ! (true-lit !) (and-then ! (load ! (from ! (stop !)) (look ! 14 refl)) (no-more !)))))))))))
         (λ n ws found is-n. split ! $ move ! (2 ∷ []) $ fsplit ! $ drop ! $ fsplit ! $ drop ! $ fsplit ! $ drop ! $ fsplit ! $ drop ! $ fsplit ! $ drop ! $ fsplit ! $ drop ! $ fsplit ! $ drop ! $ fsplit ! $ drop ! $ fsplit ! $ drop ! $ fsplit ! $ move ! (1 ∷ []) $ drop ! $
         move ! (2 ∷ []) $ split ! $ move ! (1 ∷ []) $ drop ! $ move ! (0 ∷ 3 ∷ 1 ∷ []) $

@@ -15,6 +15,7 @@ use Rattle.askings.proofs.route.Symbol.{name as #rest}
 use Rattle.askings.proofs.route.Met as rest-thm
 use Rattle.walks.specs.Returning.{returns-owned}
 use Rattle.judging.specs.Judging.{Fits}
+use Rattle.calls.specs.Rules.{lentMap}
 use Rattle.calls.specs.Calls.{RouteCall}
 use Rattle.layer.proofs.Asking.{PrepareC, prepares, parts-tokens, joins-tokens, retold}
 use Rattle.layer.proofs.DriveAnswers.{drive-may, route-joined}
@@ -87,7 +88,7 @@ module _ {M : Type 1} (𝓤 : URA M) (H : Heap 𝓤) (A : Atoms 𝓤) (W : Given
   abbrev owned-part : RefT (List ℕ) → Item 𝓤
   owned-part part = ‵ (MutSlice (named 3) κ₃ u16 .own part (spelled part ∷ []))
 
-  exits : (n : ℕ) (s : List ℕ) (part : RefT (List ℕ)) (ws : Unit {0} × (Unit {0} × (Unit {0} × (Unit {0} × (Unit {0} × (Unit {0} × (Unit {0} × (List ℕ × (List ℕ × (Unit {0} × (ℕ × (ℕ × Unit {0})))))))))))) → length s ≡ length old → RouteCall ys count w h sx sy dx dy old (region .now) (route .now) (state .now) (ws .1 .1 .1 .1 .1 .1 .1 .0) (ws .1 .1 .1 .1 .1 .1 .1 .1 .0) (part .now) (ws .1 .1 .1 .1 .1 .1 .1 .1 .1 .1 .0) (ws .1 .1 .1 .1 .1 .1 .1 .1 .1 .1 .1 .0)
+  exits : (n : ℕ) (s : List ℕ) (part : RefT (List ℕ)) (ws : Unit {0} × (Unit {0} × (Unit {0} × (Unit {0} × (Unit {0} × (Unit {0} × (Unit {0} × (List ℕ × (List ℕ × (Unit {0} × (ℕ × (ℕ × Unit {0})))))))))))) → length s ≡ length old → RouteCall (lentMap ys count w h) sx sy dx dy old (region .now) (route .now) (state .now) (ws .1 .1 .1 .1 .1 .1 .1 .0) (ws .1 .1 .1 .1 .1 .1 .1 .1 .0) (part .now) (ws .1 .1 .1 .1 .1 .1 .1 .1 .1 .1 .0) (ws .1 .1 .1 .1 .1 .1 .1 .1 .1 .1 .1 .0)
       → ent 𝓤 (⋆ 𝓤 H A (owned-part part ∷ handed ∷ ‵ (lasts rest.ended (κ′, (κ₂, (κ₃, (κ₄, (κ₅, tt))))) (to-rest n s .0 .3) ws) ∷ kept ∷ [])) (Post (spelled part))
   exits n s part ws len e =
       qed W (owned-part part ∷ handed ∷ ‵ (lasts rest.ended (κ′, (κ₂, (κ₃, (κ₄, (κ₅, tt))))) (to-rest n s .0 .3) ws) ∷ kept ∷ []) ∵
