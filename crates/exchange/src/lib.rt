@@ -1,5 +1,7 @@
 // The parts of the two map-file calls that need no list of records: writing from a sheet on which the rocks are stamped, and reading into bits, from
 // which each rock's marker is told.
+use calls::ReadMap;
+use calls::WroteMap;
 use field::Marker;
 use field::refusals::SHARED_CROSSING;
 use field::refusals::SHORT_OUTPUT;
@@ -13,27 +15,11 @@ ghost use Rattle.field.specs.Workings.MarkCount.{marks};
 ghost use Rattle.mapfile.specs.MarkerLaws.{markerAt};
 ghost use Rattle.exchange.specs.Promise.{Area, MayWrite, WriteRest, ReadFirst, RockAhead, NextRock, MayMark};
 
-// Width, height and number of markers of a map that was read, or the refusal.
-#[repr(C)]
-pub struct ReadMap {
-    pub refusal: u8,
-    pub width: usize,
-    pub height: usize,
-    pub count: usize,
-}
-
-// How many bytes were written, or the refusal.
-#[repr(C)]
-pub struct WroteMap {
-    pub refusal: u8,
-    pub bytes: usize,
-}
-
 // How many crossings the map has. A size against the limits, which is refused, counts for none.
 pub fn area(w: usize, h: usize) -> usize
     ensures { λ r. ⌜ Area w h r ⌝ }
 {
-    if !judging::sized(w, h) {
+    if !sheets::sized(w, h) {
         return 0;
     }
     h * w

@@ -6,7 +6,7 @@ use mathlib.Core.Logic.{_⊎_}
 use Prim.Native.Nat.{ℕ, _+_, _*_, _<_}
 use Rattle.field.specs.Map.{Sides, On, most-markers}
 use Rattle.field.specs.Refusals.{bad-size, bad-sheet, bad-list, bad-place, id-in-use, id-not-in-use, no-slot}
-use Rattle.judging.specs.Rule.{Rule, rule}
+use Rattle.calls.specs.Rule.{Rule, rule}
 
 -- A sheet of n bytes is of the map's size.
 pub record Fits (w h n : ℕ) : Type 0 where

@@ -32,6 +32,7 @@ use Rattle.walks.specs.Calls.{called}
 use Rattle.walks.specs.Lending.{sliceAt, mutOwn, shrOwn, lent, lastly, lends, takes-back}
 use Rattle.walks.specs.Meeting.{Promised}
 use Rattle.walks.specs.Handing.{hands, hears}
+use Rattle.calls.specs.Rules.{lentMap}
 use Rattle.layer.specs.Prepared.{Prepared}
 use Rattle.layer.proofs.prepare as prepare
 use Rattle.layer.proofs.prepare.Symbol.{name as #prepare}
@@ -47,7 +48,7 @@ module _ {M : Type 1} (𝓤 : URA M) (H : Heap 𝓤) (A : Atoms 𝓤) (W : Given
   abbrev vsheet : Val
   vsheet = sliceVal (i′, o′) (length old)
 
-  abbrev to-prepare : ℕ → GName → Promised 𝓤 H A prepare.ended (PrepareC 𝓤 H A mem run) .Ghost
+  abbrev pub to-prepare : ℕ → GName → Promised 𝓤 H A prepare.ended (PrepareC 𝓤 H A mem run) .Ghost
   to-prepare ν δ = (
     (
       (κ, (ν ∷ [], tt)),
@@ -64,7 +65,7 @@ module _ {M : Type 1} (𝓤 : URA M) (H : Heap 𝓤) (A : Atoms 𝓤) (W : Given
       → FmC 𝓤 H (W .laws) C → Triple 𝓤 (C #prepare) (Promised 𝓤 H A prepare.ended (PrepareC 𝓤 H A mem run))
       → ((ν : ℕ) (δ : GName) → Opds K W (raw (Promised 𝓤 H A prepare.ended (PrepareC 𝓤 H A mem run) .pre (to-prepare ν δ)) ∷ lent 𝓤 κ′ q′ u8 i′ o′ γ′ old ν δ ∷ Γ) E xs
       (vlist ∷ vint w64 count ∷ vint w64 w ∷ vint w64 h ∷ vint w64 x ∷ vint w64 y ∷ vint w64 a ∷ vint w64 b ∷ vbool others ∷ vsheet ∷ []))
-      → ((n : ℕ) (s : List ℕ) → Prepared ys count w h x y a b others old s n → length s ≡ length old → n < 2 ^ 8
+      → ((n : ℕ) (s : List ℕ) → Prepared (lentMap ys count w h) x y a b others old s n → length s ≡ length old → n < 2 ^ 8
       → Seq K W (‵ (mutOwn κ′ u8 i′ o′ γ′ s (vsheet ∷ [])) ∷ ‵ (flft κ′ q′) ∷ (‵ (flft κ q) ⊛ ‵ ftrue) ∷ Γ) (lands C Λ E d (vint w8 n) rest z))
       → Seq K W (‵ (mutOwn κ′ u8 i′ o′ γ′ old (vsheet ∷ [])) ∷ ‵ (flft κ′ q′) ∷ (‵ (flft κ q) ⊛ ‵ ftrue) ∷ ‵ (shrOwn κ T.the-row i o γ ys (vlist ∷ [])) ∷ Γ)
       (runs C Λ E (seq (call #prepare xs d) rest) z)
@@ -77,7 +78,7 @@ module _ {M : Type 1} (𝓤 : URA M) (H : Heap 𝓤) (A : Atoms 𝓤) (W : Given
       (‵ (flft κ q) ⊛ ‵ (flft (ν ∷ []) fullShare) ⊛ ‵ ftrue) refl
       ((num, (refl, fc)), ((num, (refl, fw)), ((num, (refl, fh)), ((num, (refl, fx)), ((num, (refl, fy)), ((num, (refl, fa)), ((num, (refl, fb)), ((bool-makes 𝓤 H A W, refl), tt)))))))) (id⊢ 𝓤 (emp 𝓤)) $
       called t fm prepare.ended (PrepareC 𝓤 H A mem run) known (to-prepare ν δ) (‵ (flft κ q) ⊛ ‵ (flft (ν ∷ []) fullShare) ⊛ ‵ ftrue) refl (vint w8) (uint-tells w8)
-      (λ r ws. Prepared ys count w h x y a b others old (ws .1 .1 .1 .1 .1 .1 .1 .1 .1 .0) r) (λ _ _. refl) (os ν δ)
+      (λ r ws. Prepared (lentMap ys count w h) x y a b others old (ws .1 .1 .1 .1 .1 .1 .1 .1 .1 .0) r) (λ _ _. refl) (os ν δ)
       (λ n ws e is. move t (1 ∷ []) $
       hears W prepare.ended (κ, (ν ∷ [], tt)) (to-prepare ν δ .0 .3) ws (false ∷ false ∷ false ∷ false ∷ false ∷ false ∷ false ∷ false ∷ false ∷ true ∷ []) $
       -- [the sheet's last; κ, ν; its keeping]

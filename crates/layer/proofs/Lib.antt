@@ -6,3 +6,5 @@ mod Joining
 mod LabelAnswers
 mod DriveAnswers
 mod Asking
+mod Walking
+mod Prelude

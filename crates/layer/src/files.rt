@@ -1,13 +1,14 @@
 // The two map-file calls: the list written as a map file, and a map file read into the list.
 use super::prepare;
-use exchange::ReadMap;
-use exchange::WroteMap;
+use calls::ReadMap;
+use calls::WroteMap;
 use field::MOST_CROSSINGS;
 use field::Marker;
 ghost use mathlib.Core.Path.{_≡_};
 ghost use Prim.Native.Nat.{_*_};
 ghost use lib.ListN.{take};
 ghost use Rattle.mapfile.specs.File.{markersOf};
+ghost use Rattle.calls.specs.Rules.{lentMap};
 ghost use Rattle.calls.specs.Calls.{ReadCall, WriteCall};
 ghost use Rattle.layer.specs.Files.{MayPut, putIn};
 
@@ -21,7 +22,7 @@ pub extern "C" fn bodkin_write(
     h: usize,
     out: &mut [u8],
 ) -> WroteMap
-    ensures { λ r. ⌜ WriteCall (now (list .entry)) count w h (now (out .entry)) (now (out .exit)) r ⌝ }
+    ensures { λ r. ⌜ WriteCall (lentMap (now (list .entry)) count w h) (now (out .entry)) (now (out .exit)) r ⌝ }
 {
     let mut sheet = [0u8; MOST_CROSSINGS];
     let size = exchange::area(w, h);

@@ -117,7 +117,7 @@ fn read_map(src: &[u8], plain: bool, lent: usize, bits: &mut [u8]) -> Reading
     let Head::Sides(w, h, at) = head else {
         return Reading::Refused(BAD_HEADER);
     };
-    if !judging::sized(w, h) {
+    if !sheets::sized(w, h) {
         return Reading::Refused(BAD_SIZE);
     }
     read_raster(plain, &src[at..], w, h, lent, bits)

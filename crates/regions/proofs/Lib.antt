@@ -6,3 +6,4 @@ pub mod PassLaws
 pub mod WalkLaws
 pub mod PassMeaning
 pub mod RegionMade
+pub mod Finding

@@ -104,8 +104,8 @@ module _ (w h : ℕ) (s : List ℕ) (sx sy dx dy : ℕ) where
 
 -- The tests of the ends, i being an end's number: it is closed if something else than 0 stands there, and else open.
 module _ {w h x y i : ℕ} (s : List ℕ) (o : On w h x y) (is : i ≡ number w x y) where
-  pub end-closed : ¬ (getD s i 0 ≡ 0) → ¬ Open w h (Marked s w h) x y
-  end-closed n k = k .free (record { on = o; mark = rw (← is) (pos n) })
+  pub end-closed : ¬ (getD s i 0 ≡ 0) → Marked s w h x y
+  end-closed n = record { on = o; mark = rw (← is) (pos n) }
     where
       pos : {v : ℕ} → ¬ (v ≡ 0) → 0 < v
       pos m = omega arith

@@ -11,7 +11,7 @@ use lib.ListN.{set}
 use Rattle.field.specs.Map.{On, number, at, gap}
 use Rattle.field.specs.Workings.Looking.{hopTo}
 use Rattle.field.specs.Workings.GridLaws.{Toward, along-row, along-column, gap-none}
-use Rattle.regions.specs.Promise.{Asked}
+use Rattle.regions.specs.Promise.{RegionAsked}
 use Rattle.regions.specs.Passes.{Looked, OnWay, InRow, Spanned, backed, Pass}
 use Rattle.regions.proofs.WayLaws.{way-start, way-lt, way-one, way-hop, way-farther, back-nearer}
 use Rattle.regions.proofs.PassLaws.{Follows, pass-none, pass-one, pass-over, pass-from, pass-then}
@@ -38,7 +38,7 @@ pub record AtRow (w h ex ey fx fy : ℕ) (v : ℕ → ℕ → ℕ) (g g′ : Lis
   pub done : Pass w h ex ey (RowsTo ex ey fx fy (gap ey y)) v g g′
 
 -- A call over two sheets is also one over the region sheet alone.
-pub asked-looked : {w h ex ey fx fy : ℕ} {s g : List ℕ} → Asked w h s g ex ey fx fy → Looked w h g ex ey fx fy
+pub asked-looked : {w h ex ey fx fy : ℕ} {s g : List ℕ} → RegionAsked w h s g ex ey fx fy → Looked w h g ex ey fx fy
 asked-looked k = record { sides = k .sides; size = k .region; from = k .from; to = k .to }
 
 -- A hop towards an end brings neither offset up.

@@ -2,7 +2,7 @@
 use mathlib.Core.Path.{refl, sym}
 use native.Mathlib.Omega.{arith}
 use lib.Seq.{length-take-le}
-use Rattle.askings.proofs.Routing.{drove-within}
+use Rattle.askings.proofs.Bridge.{drove-within}
 use borrow.Author.Needs.{needs}
 use Rattle.askings.proofs.route.Statement.{statement}
 use Rattle.askings.proofs.route.Tie as tie

@@ -1,10 +1,10 @@
--- `an_end_closed` meets its contract: a crossing is open exactly where its mark is 0.
+-- `an_end_closed` meets its contract: a crossing is closed exactly where its mark is not 0.
 use mathlib.Core.Path.{refl}
-use mathlib.Core.Logic.{inl, inr}
+use mathlib.Core.Logic.{inl, inr, ⊎-elim}
 use Rattle.regions.proofs.RegionMade.{end-closed, end-open}
 use borrow.Author.Needs.{needs}
-use Rattle.answers.proofs.an_end_closed.Statement.{statement}
-use Rattle.answers.proofs.an_end_closed.Tie as tie
+use Rattle.askings.proofs.telling.an_end_closed.Statement.{statement}
+use Rattle.askings.proofs.telling.an_end_closed.Tie as tie
 
 mark-requires : tie.Need-mark-requires
 mark-requires c κs = search needs
@@ -26,10 +26,9 @@ returns-3 : tie.Need-returns-3
 returns-3 c =
     let second = c .before in
     let first = second .before .before in
-    let pre = first .before .before .pre in (
-      end-open _ (pre .home) refl (rw (first .mark .ensures) at (second .before .if1 .left)),
-      end-open _ (pre .on) refl (rw (second .mark2 .ensures) at (c .if2 .left)),
-    )
+    let pre = first .before .before .pre in
+    ⊎-elim (end-open _ (pre .home) refl (rw (first .mark .ensures) at (second .before .if1 .left)) .free)
+    (end-open _ (pre .on) refl (rw (second .mark2 .ensures) at (c .if2 .left)) .free)
 
 pub an-end-closed-spec : {M : Type 1} → statement M
 an-end-closed-spec = tie.close (tie.spec mark-requires returns mark-requires-2 returns-2 returns-3)

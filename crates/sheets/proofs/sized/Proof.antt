@@ -3,9 +3,9 @@ use native.Mathlib.Omega.{arith}
 use borrow.Author.Tests.{leb-true, le-leb}
 use Prim.Native.Nat.{_≤_}
 use Rattle.field.specs.Limits.{side-number, side-is}
-use Rattle.judging.proofs.Told.{refused}
-use Rattle.judging.proofs.sized.Statement.{statement}
-use Rattle.judging.proofs.sized.Tie as tie
+use Rattle.sheets.proofs.Told.{refused}
+use Rattle.sheets.proofs.sized.Statement.{statement}
+use Rattle.sheets.proofs.sized.Tie as tie
 
 returns : tie.Need-returns
 returns c = refused (λ s. omega (arith, s .some-w))

@@ -1,8 +1,8 @@
--- `hop_numbers` meets its contract: each case of the enum has document 01's values.
+-- `hops_named` meets its contract: each case of the enum has document 01's values.
 use mathlib.Core.Path.{refl}
 use borrow.Author.Needs.{needs}
-use Rattle.answers.proofs.hop_numbers.Statement.{statement}
-use Rattle.answers.proofs.hop_numbers.Tie as tie
+use Rattle.askings.proofs.telling.hops_named.Statement.{statement}
+use Rattle.askings.proofs.telling.hops_named.Tie as tie
 
 enum-told : tie.Need-enum-told
 enum-told c = search needs
@@ -25,8 +25,8 @@ returns-2 c = rw (c .before .answer .given .1) refl
 returns-3 : tie.Need-returns-3
 returns-3 c = rw (c .before .answer2 .given .1) refl
 
-pub hop-numbers-spec : {M : Type 1} → statement M
-hop-numbers-spec =
+pub hops-named-spec : {M : Type 1} → statement M
+hops-named-spec =
     tie.close
     (tie.spec
     enum-told
