@@ -36,11 +36,37 @@ use Rattle.layer.specs.Prepared.{Prepared}
 use Rattle.layer.proofs.prepare as prepare
 use Rattle.layer.proofs.prepare.Symbol.{name as #prepare}
 
+-- What `prepare` is asked beside the list: the map, and the two places. Each is a number of 64 bits.
+pub record Asked : Type 0 where
+  pub w : ℕ
+  pub h : ℕ
+  pub x : ℕ
+  pub y : ℕ
+  pub a : ℕ
+  pub b : ℕ
+
+pub record Small (k : Asked) : Type 0 where
+  pub w : k .w < 2 ^ 64
+  pub h : k .h < 2 ^ 64
+  pub x : k .x < 2 ^ 64
+  pub y : k .y < 2 ^ 64
+  pub a : k .a < 2 ^ 64
+  pub b : k .b < 2 ^ 64
+
+-- What it has found: the refusal n, and s on the label sheet that held `labels`.
+abbrev pub Found : List Marker → ℕ → Asked → Bool → List ℕ → List ℕ → ℕ → Type 0
+Found ys count k others labels s n = Prepared ys count (k .w) (k .h) (k .x) (k .y) (k .a) (k .b) others labels s n
+
+-- The machine values of its arguments.
+abbrev pub prepare-vals : Val → ℕ → Asked → Bool → Val → List Val
+prepare-vals list count k others sheet =
+    list ∷ vint w64 count ∷ vint w64 (k .w) ∷ vint w64 (k .h) ∷ vint w64 (k .x) ∷ vint w64 (k .y) ∷ vint w64 (k .a) ∷ vint w64 (k .b) ∷ vbool others ∷ sheet ∷ []
+
 abbrev pub PrepareC : {M : Type 1} (𝓤 : URA M) (H : Heap 𝓤) (A : Atoms 𝓤) (mem : Memory → SProp 𝓤) (run : Routine → Fun 𝓤) → Clauses 𝓤 prepare.ended
 PrepareC 𝓤 H A mem run = prepare.clauses 𝓤 H A mem run
 
 module _ {M : Type 1} (𝓤 : URA M) (H : Heap 𝓤) (A : Atoms 𝓤) (W : Given 𝓤 H A) (mem : Memory → SProp 𝓤) (run : Routine → Fun 𝓤) (κ κ′ : Lft) (q q′ : Share)
-    (i o i′ o′ : ℕ) (γ γ′ : GName) (ys : List Marker) (count w h x y a b : ℕ) (others : Bool) (old : List ℕ) where
+    (i o i′ o′ : ℕ) (γ γ′ : GName) (ys : List Marker) (count : ℕ) (k : Asked) (others : Bool) (old : List ℕ) where
   abbrev vlist : Val
   vlist = sliceVal (i, o) (length ys)
 
@@ -53,31 +79,31 @@ module _ {M : Type 1} (𝓤 : URA M) (H : Heap 𝓤) (A : Atoms 𝓤) (W : Given
       (κ, (ν ∷ [], tt)),
       (q, (fullShare, tt)),
       tt,
-      (sliceAt i o γ ys, (count, (w, (h, (x, (y, (a, (b, (others, (sliceAt i′ o′ δ old, tt)))))))))),
-      (vlist ∷ [], (vint w64 count ∷ [], (vint w64 w ∷ [], (vint w64 h ∷ [], (vint w64 x ∷ [], (vint w64 y ∷ [], (vint w64 a ∷ [], (vint w64 b ∷ [], (vbool others ∷ [], (vsheet ∷ [], tt)))))))))),
+      (sliceAt i o γ ys, (count, (k .w, (k .h, (k .x, (k .y, (k .a, (k .b, (others, (sliceAt i′ o′ δ old, tt)))))))))),
+      (vlist ∷ [], (vint w64 count ∷ [], (vint w64 (k .w) ∷ [], (vint w64 (k .h) ∷ [], (vint w64 (k .x) ∷ [], (vint w64 (k .y) ∷ [], (vint w64 (k .a) ∷ [], (vint w64 (k .b) ∷ [], (vbool others ∷ [], (vsheet ∷ [], tt)))))))))),
     ),
     tt,
   )
 
   pub prepares : {K : Type 0} {Γ : List (Item 𝓤)} {E : Env 𝓤 H} {C : Calls 𝓤 H} {Λ : Loops 𝓤 H} {z : Post 𝓤 H} {xs : List Operand} {d : Place} {rest : Body}
-      → K → count < 2 ^ 64 → w < 2 ^ 64 → h < 2 ^ 64 → x < 2 ^ 64 → y < 2 ^ 64 → a < 2 ^ 64 → b < 2 ^ 64
+      → K → count < 2 ^ 64 → Small k
       → FmC 𝓤 H (W .laws) C → Triple 𝓤 (C #prepare) (Promised 𝓤 H A prepare.ended (PrepareC 𝓤 H A mem run))
       → ((ν : ℕ) (δ : GName) → Opds K W (raw (Promised 𝓤 H A prepare.ended (PrepareC 𝓤 H A mem run) .pre (to-prepare ν δ)) ∷ lent 𝓤 κ′ q′ u8 i′ o′ γ′ old ν δ ∷ Γ) E xs
-      (vlist ∷ vint w64 count ∷ vint w64 w ∷ vint w64 h ∷ vint w64 x ∷ vint w64 y ∷ vint w64 a ∷ vint w64 b ∷ vbool others ∷ vsheet ∷ []))
-      → ((n : ℕ) (s : List ℕ) → Prepared ys count w h x y a b others old s n → length s ≡ length old → n < 2 ^ 8
+      (prepare-vals vlist count k others vsheet))
+      → ((n : ℕ) (s : List ℕ) → Found ys count k others old s n → length s ≡ length old → n < 2 ^ 8
       → Seq K W (‵ (mutOwn κ′ u8 i′ o′ γ′ s (vsheet ∷ [])) ∷ ‵ (flft κ′ q′) ∷ (‵ (flft κ q) ⊛ ‵ ftrue) ∷ Γ) (lands C Λ E d (vint w8 n) rest z))
       → Seq K W (‵ (mutOwn κ′ u8 i′ o′ γ′ old (vsheet ∷ [])) ∷ ‵ (flft κ′ q′) ∷ (‵ (flft κ q) ⊛ ‵ ftrue) ∷ ‵ (shrOwn κ T.the-row i o γ ys (vlist ∷ [])) ∷ Γ)
       (runs C Λ E (seq (call #prepare xs d) rest) z)
-  prepares t fc fw fh fx fy fa fb fm known os go =
+  prepares t fc small fm known os go =
       let num = uint-makes 𝓤 H A W w64 in
       lends t tt u8 i′ o′ old (vsheet ∷ []) (λ lentSheet ν δ.
       -- [ν; sheet; its keeping; κ; list]
       move t (3 ∷ []) $ split t $ move t (2 ∷ 1 ∷ []) $ join t $ move t (1 ∷ 0 ∷ []) $ join t $ move t (0 ∷ 3 ∷ []) $
       hands W prepare.ended (PrepareC 𝓤 H A mem run) (to-prepare ν δ) (true ∷ false ∷ false ∷ false ∷ false ∷ false ∷ false ∷ false ∷ false ∷ true ∷ [])
       (‵ (flft κ q) ⊛ ‵ (flft (ν ∷ []) fullShare) ⊛ ‵ ftrue) refl
-      ((num, (refl, fc)), ((num, (refl, fw)), ((num, (refl, fh)), ((num, (refl, fx)), ((num, (refl, fy)), ((num, (refl, fa)), ((num, (refl, fb)), ((bool-makes 𝓤 H A W, refl), tt)))))))) (id⊢ 𝓤 (emp 𝓤)) $
+      ((num, (refl, fc)), ((num, (refl, small .w)), ((num, (refl, small .h)), ((num, (refl, small .x)), ((num, (refl, small .y)), ((num, (refl, small .a)), ((num, (refl, small .b)), ((bool-makes 𝓤 H A W, refl), tt)))))))) (id⊢ 𝓤 (emp 𝓤)) $
       called t fm prepare.ended (PrepareC 𝓤 H A mem run) known (to-prepare ν δ) (‵ (flft κ q) ⊛ ‵ (flft (ν ∷ []) fullShare) ⊛ ‵ ftrue) refl (vint w8) (uint-tells w8)
-      (λ r ws. Prepared ys count w h x y a b others old (ws .1 .1 .1 .1 .1 .1 .1 .1 .1 .0) r) (λ _ _. refl) (os ν δ)
+      (λ r ws. Found ys count k others old (ws .1 .1 .1 .1 .1 .1 .1 .1 .1 .0) r) (λ _ _. refl) (os ν δ)
       (λ n ws e is. move t (1 ∷ []) $
       hears W prepare.ended (κ, (ν ∷ [], tt)) (to-prepare ν δ .0 .3) ws (false ∷ false ∷ false ∷ false ∷ false ∷ false ∷ false ∷ false ∷ false ∷ true ∷ []) $
       -- [the sheet's last; κ, ν; its keeping]
