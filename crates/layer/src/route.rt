@@ -1,6 +1,6 @@
 // The drive in the form that document 01 names: the filled part of the lent route is handed back. A returned reference cannot be exported to C, so
 // this call is for Rattle alone; `bodkin_drive` makes the same drive, and answers how many crossings it has.
-use super::prepare;
+use super::preparing::prepare;
 use field::Marker;
 ghost use Rattle.calls.specs.Calls.{RouteCall};
 

@@ -16,7 +16,7 @@ use base.Fml.{fat}
 use prog.Wp.{Heap, Env, Calls, Loops, spotOf, noLocal}
 use ghost.Atoms.{Atoms}
 use types.Kit.{Given, Item, ‵, nth, put, Goal, Post, Seq, Step, step, runs, lands, _$_}
-use types.Run.{Opd, Opds, stop, hop, from, addr, look as looks, init, land, lit, true-lit, false-lit, no-more, and-then, of-opd, assigns}
+use types.Run.{Opd, Opds, stop, hop, from, addr, look, init, land, lit, true-lit, false-lit, no-more, and-then, of-opd, assigns}
 use Rattle.walks.specs.Frames.{Known, first, rest, cell, cells, locals}
 use Rattle.walks.specs.Steps.{var, field-of, relends, sets}
 
@@ -63,12 +63,12 @@ module _ {M : Type 1} (𝓤 : URA M) (H : Heap 𝓤) where
   Has (e ∷ E) vs (suc i) u = Has E (rest vs) i u
 
   -- The same, looked up: none where there is no local i.
-  abbrev pub look : Env 𝓤 H → Known → ℕ → Option (Option Val)
-  look [] vs i = none
-  look (e ∷ E) vs zero = some (first vs)
-  look (e ∷ E) vs (suc i) = look E (rest vs) i
+  abbrev pub known-at : Env 𝓤 H → Known → ℕ → Option (Option Val)
+  known-at [] vs i = none
+  known-at (e ∷ E) vs zero = some (first vs)
+  known-at (e ∷ E) vs (suc i) = known-at E (rest vs) i
 
-  pub has : (E : Env 𝓤 H) (vs : Known) (i : ℕ) (u : Option Val) → look E vs i ≡ some u → Has E vs i u
+  pub has : (E : Env 𝓤 H) (vs : Known) (i : ℕ) (u : Option Val) → known-at E vs i ≡ some u → Has E vs i u
   has [] vs i u h = let z : _≡_ {A = ℕ} 0 1 = cc in omega arith
   has (e ∷ E) vs zero u h = cc
   has (e ∷ E) vs (suc i) u h = has E (rest vs) i u h
@@ -214,4 +214,4 @@ module _ {M : Type 1} {𝓤 : URA M} {H : Heap 𝓤} {A : Atoms 𝓤} {K : Type 
       passes-on t vs s p b o {τ} {rest} hs hp wp =
           subst (λ (Θ : List (Item 𝓤)). Step K W Θ (runs C Λ E rest z) (Δ ++ locals 𝓤 H A E vs Γ) (runs C Λ E (seq (assign (place p []) (addrOf (place s (deref τ ∷ [])))) rest) z))
           (put-local 𝓤 H A Δ E vs p none (vptr b o) Γ hp)
-          (assigns t (addr t (from t (hop t (looks t (past 𝓤 H A Δ s) (nth-local 𝓤 H A Δ E vs s _ Γ hs)) (stop t)))) (from t (stop t)) (init t (past 𝓤 H A Δ p) (nth-local 𝓤 H A Δ E vs p none Γ hp) wp))
+          (assigns t (addr t (from t (hop t (look t (past 𝓤 H A Δ s) (nth-local 𝓤 H A Δ E vs s _ Γ hs)) (stop t)))) (from t (stop t)) (init t (past 𝓤 H A Δ p) (nth-local 𝓤 H A Δ E vs p none Γ hp) wp))

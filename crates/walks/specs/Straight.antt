@@ -13,7 +13,7 @@ use prog.Wp.{Heap, Env, Calls, Loops, spotOf, noLocal}
 use ghost.Atoms.{Atoms}
 use types.Kit.{Given, Item, Post, Seq, runs, _$_}
 use Rattle.walks.specs.Frames.{Known, locals}
-use Rattle.walks.specs.Places.{keeps, look, has, true-T, sliceTy, sliceOf, lends-on, reads-length, passes-on}
+use Rattle.walks.specs.Places.{keeps, known-at, has, true-T, sliceTy, sliceOf, lends-on, reads-length, passes-on}
 
 -- A slice at (b, o), n long, that local s holds is lent on in r, by way of p; its length is read into p; or the reference that local s holds is lent on.
 pub data Stmt : Type 0 where
@@ -59,12 +59,12 @@ module _ {M : Type 1} (𝓤 : URA M) (H : Heap 𝓤) (E : Env 𝓤 H) where
       let us = keeps p (vptr b o) vs in
       _≡_ {A = Lending} (record {
         type = getD E s (noLocal 𝓤 H) .0;
-        slice = look 𝓤 H E vs s;
-        for-ref = look 𝓤 H E vs p;
+        slice = known-at 𝓤 H E vs s;
+        for-ref = known-at 𝓤 H E vs p;
         ref-fits = hasTy (spotOf 𝓤 H E p .0) (vptr b o);
-        slice-then = look 𝓤 H E us s;
-        ref-then = look 𝓤 H E us p;
-        for-slice = look 𝓤 H E us r;
+        slice-then = known-at 𝓤 H E us s;
+        ref-then = known-at 𝓤 H E us p;
+        for-slice = known-at 𝓤 H E us r;
         slice-fits = hasTy (spotOf 𝓤 H E r .0) (sliceOf b o n);
       })
       (record {
@@ -80,7 +80,7 @@ module _ {M : Type 1} (𝓤 : URA M) (H : Heap 𝓤) (E : Env 𝓤 H) where
 
   abbrev pub Reads : Known → ℕ → ℕ → Ty → Val → Val → Type 0
   Reads vs s p τ u v =
-      _≡_ {A = Reading} (record { type = getD E s (noLocal 𝓤 H) .0; held = look 𝓤 H E vs s; room = look 𝓤 H E vs p; fits = hasTy (spotOf 𝓤 H E p .0) v })
+      _≡_ {A = Reading} (record { type = getD E s (noLocal 𝓤 H) .0; held = known-at 𝓤 H E vs s; room = known-at 𝓤 H E vs p; fits = hasTy (spotOf 𝓤 H E p .0) v })
       (record { type = τ; held = some (some u); room = some none; fits = true })
 
   -- A piece of code is sound: what it lends on and reads is there. At given locals each is one equation, by `refl`, and a length beside it has 64 bits.
@@ -112,3 +112,21 @@ module _ {M : Type 1} {𝓤 : URA M} {H : Heap 𝓤} {A : Atoms 𝓤} {K : Type 
       let h = ok .0 in
       passes-on Δ E Γ t vs s p b o (has 𝓤 H E vs s _ (ap (λ (l : Reading). l .held) h)) (has 𝓤 H E vs p _ (ap (λ (l : Reading). l .room) h)) (true-T (ap (λ (l : Reading). l .fits) h), tt) $
       straight t ss (keeps p (vptr b o) vs) rest (ok .1) k
+
+-- What the two calls find: whether the operands of the first can be read, and what it is handed; the local to which it answers, and whether it takes the
+-- answer; and then, the result not being there yet, the same of the second.
+pub record TwoCalls : Type 0 where
+  pub first-read : Bool
+  pub first-handed : List Val
+  pub for-answer : Option (Option Val)
+  pub answer-fits : Bool
+  pub then-known : Known
+  pub second-read : Bool
+  pub second-handed : List Val
+
+-- The same of one call.
+pub record OneCall : Type 0 where
+  pub read : Bool
+  pub handed : List Val
+  pub for-answer : Option (Option Val)
+  pub answer-fits : Bool

@@ -1,5 +1,6 @@
 -- `bodkin_distances` meets its promise: the walk of every asking that judges no sheet but the label sheet (`Walking.antt`), at its form.
-use Rattle.layer.proofs.Prelude.{refl, [], _∷_, w64, emp, factI, givenOf, tables, tablesOf, tripleOf, entered, cited, Form, Promised, prepare-known, value, at, asks-plainly}
+use Rattle.walks.specs.Prelude.{refl, [], _∷_, w64, emp, factI, givenOf, tables, tablesOf, tripleOf, entered, cited, Form, Promised, value, at}
+use Rattle.layer.proofs.Walking.{prepare-known, asks-plainly}
 use denote.Struct.Laws as LL
 use Rattle.askings.proofs.Four as R
 use Rattle.askings.proofs.Four.Laws as R′
@@ -24,7 +25,7 @@ bodkin-distances-spec 𝓤 H 𝓜 𝓖 𝓡 =
     let c = this.clauses 𝓤 H A (𝓜 .mem) (𝓡 .run) in
     let c′ = rest.clauses 𝓤 H A (𝓜 .mem) (𝓡 .run) in
     entered 𝓤 H (tripleOf 𝓤 H A this.signature (this.spec 𝓤 H A (𝓜 .mem) (𝓡 .run))) (tables 𝓤 H 𝓜 𝓡 code.env .C) (tables 𝓤 H 𝓜 𝓡 code.env .Λ) #this code.function (code.unfolded 𝓤 H 𝓜 𝓡)
-    (asks-plainly 𝓤 H A W F c c′ code.function (𝓜 .mem) (𝓡 .run) (tablesOf 𝓤 H 𝓜 (tables 𝓤 H 𝓜 𝓡 code.env)) #rest (prepare-known 𝓤 H 𝓜 𝓖 𝓡 code.env code.calls-layer·prepare)
+    (asks-plainly 𝓤 H A W F c c′ code.function (𝓜 .mem) (𝓡 .run) (tablesOf 𝓤 H 𝓜 (tables 𝓤 H 𝓜 𝓡 code.env)) #rest (prepare-known 𝓤 H 𝓜 𝓖 𝓡 code.env code.calls-layer·preparing·prepare)
     (cited 𝓤 H (Promised 𝓤 H A rest.ended c′) 𝓜 𝓡 code.env #rest rest-def.routine code.calls-askings·distances (rest-thm.met 𝓤 H 𝓜 𝓖 𝓡))
     (at 2) (at 3) (at 2) (at 3) tt (λ _ _. refl) (λ _ _ _ _ fit. ((refl, fit), tt))
     (record {

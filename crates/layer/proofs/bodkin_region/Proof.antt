@@ -1,5 +1,7 @@
 -- `bodkin_region` meets its promise: the walk of every asking that judges other sheets too (`Walking.antt`), at its form.
-use Rattle.layer.proofs.Prelude.{refl, [], _∷_, w64, emp, factI, givenOf, tables, tablesOf, tripleOf, entered, cited, Form, Promised, prepare-known, value, u8, w8, vint, uint-tells, sheet, at, true, _↔_, _≡_, length, id⊢, asks-judging, beside}
+use Rattle.walks.specs.Prelude.{refl, [], _∷_, w64, emp, factI, givenOf, tables, tablesOf, tripleOf, entered, cited, Form, Promised, value, u8, w8, vint, uint-tells}
+use Rattle.walks.specs.Prelude.{sheet, at, true, _↔_, _≡_, length, id⊢, beside}
+use Rattle.layer.proofs.Walking.{prepare-known, asks-judging}
 use Rattle.askings.proofs.region as rest
 use Rattle.askings.proofs.region.Symbol as rest-def
 use Rattle.askings.proofs.region.Symbol.{name as #rest}
@@ -27,7 +29,7 @@ bodkin-region-spec 𝓤 H 𝓜 𝓖 𝓡 =
     let c′ = rest.clauses 𝓤 H A (𝓜 .mem) (𝓡 .run) in
     let cⱼ = judge.clauses 𝓤 H A (𝓜 .mem) (𝓡 .run) in
     entered 𝓤 H (tripleOf 𝓤 H A this.signature (this.spec 𝓤 H A (𝓜 .mem) (𝓡 .run))) (tables 𝓤 H 𝓜 𝓡 code.env .C) (tables 𝓤 H 𝓜 𝓡 code.env .Λ) #this code.function (code.unfolded 𝓤 H 𝓜 𝓡)
-    (asks-judging 𝓤 H A W F c c′ code.function (𝓜 .mem) (𝓡 .run) (tablesOf 𝓤 H 𝓜 (tables 𝓤 H 𝓜 𝓡 code.env)) #rest (prepare-known 𝓤 H 𝓜 𝓖 𝓡 code.env code.calls-layer·prepare)
+    (asks-judging 𝓤 H A W F c c′ code.function (𝓜 .mem) (𝓡 .run) (tablesOf 𝓤 H 𝓜 (tables 𝓤 H 𝓜 𝓡 code.env)) #rest (prepare-known 𝓤 H 𝓜 𝓖 𝓡 code.env code.calls-layer·preparing·prepare)
     (cited 𝓤 H (Promised 𝓤 H A rest.ended c′) 𝓜 𝓡 code.env #rest rest-def.routine code.calls-askings·region (rest-thm.met 𝓤 H 𝓜 𝓖 𝓡))
     (at 2) (at 3) (at 4) (at 5)
     1 (w64 ∷ w64 ∷ w64 ∷ []) cⱼ #judge (cited 𝓤 H (Promised 𝓤 H A judge.ended cⱼ) 𝓜 𝓡 code.env #judge judge-def.routine code.calls-judging·fits (judge-thm.met 𝓤 H 𝓜 𝓖 𝓡))
