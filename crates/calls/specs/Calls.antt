@@ -121,16 +121,17 @@ pub record DriveCall (list : List Marker) (count w h sx sy dx dy : ℕ) (labels 
       × (r .length ≡ dist sx sy dx dy + 1)
       × (drop (r .length) route′ ≡ drop (r .length) route)
 
--- drive, as document 01 names its form: "the call hands back the filled part of it", empty on refusal; number and state go out through lent numbers.
--- What the rest of the route holds is DriveCall's to say: once a part of a lent slice is handed back, no promise can speak of that slice as the call
--- ends.
+-- drive, as document 01 names its form: "returns the leading part of the caller's mutable route slice, empty on refusal"; number and state go out through
+-- lent numbers. A part that begins where the lent route begins, as long as it is, is the route's leading part. What the rest of the route holds is
+-- DriveCall's to say: once a part of a lent slice is handed back, no promise can speak of that slice as the call ends.
 pub record RouteCall (list : List Marker) (count w h sx sy dx dy : ℕ) (labels region route : List ℕ) (state : ℕ) (labels′ region′ part : List ℕ)
-    (number state′ : ℕ) : Type 0 where
+    (number state′ : ℕ) (route-begins part-begins : ℕ × ℕ) : Type 0 where
   pub given : Gives (Rules.drive-table list count w h sx sy dx dy labels region route) number
   pub labels-after : LabelsAfter list count w h number labels labels′
   pub region-after : RegionAfter list count w h sx sy dx dy number region region′
   pub refused : ¬ (number ≡ 0) → (part ≡ []) × (state′ ≡ state)
   pub done : number ≡ 0 → Driven w h (ClosedBy list count w h) sx sy dx dy sx sy state part state′
+  pub leading : part-begins ≡ route-begins
 
 -- read: a map file into the list. "reading a file goes 12, 13 in the header, 1, then the raster: at the first fault met 13, 14 or 15, then 7"
 pub record ReadCall (file : List ℕ) (list list′ : List Marker) (r : ReadMap) : Type 0 where

@@ -19,8 +19,8 @@ use Rattle.markers.specs.List.{WellFormed}
 use Rattle.calls.specs.Rules
 use Rattle.calls.specs.Rules.{RocksOf, ClosedBy, Misfit}
 use Rattle.calls.specs.RuleLaws.{None, gives-none, holds, on-holds, sheets-fit}
-use Rattle.calls.specs.Calls.{RegionCall, DriveCall}
-use Rattle.calls.specs.Exactly.{region-exactly, drive-exactly}
+use Rattle.calls.specs.Calls.{LabelsAfter, RegionCall, DriveCall, RouteCall}
+use Rattle.calls.specs.Exactly.{region-exactly, drive-exactly, route-exactly}
 use Rattle.answers.specs.declared.Drove.{Drove}
 
 -- What is asked: a region or a drive between open ends, with nothing amiss in the map, the sheets and the list.
@@ -67,17 +67,22 @@ module _ {list : List Marker} {count w h sx sy dx dy : ℕ} {labels region : Lis
       → (r .refusal ≡ no-drive) ↔ (¬ HasDrive w h (ClosedBy list count w h) sx sy dx dy)
   drive-nine c = nine (drive-exactly c .1 .1 .1 .1 .1 .0)
 
--- A drive that is not refused is a shortest drive from s to d, at the route's front.
-module _ {list : List Marker} {count w h sx sy dx dy : ℕ} {labels region route labels′ region′ route′ : List ℕ} {state state′ : ℕ} {r : Drove}
-    (c : DriveCall list count w h sx sy dx dy labels region route state labels′ region′ route′ state′ r) (z : r .refusal ≡ 0) where
+  pub route-nine : {route labels′ region′ part : List ℕ} {state number state′ : ℕ} {from at : ℕ × ℕ}
+      → RouteCall list count w h sx sy dx dy labels region route state labels′ region′ part number state′ from at
+      → (number ≡ no-drive) ↔ (¬ HasDrive w h (ClosedBy list count w h) sx sy dx dy)
+  route-nine c = nine (route-exactly c .1 .1 .1 .1 .1 .0)
+
+-- Where a drive is not refused, there is a shortest drive from s to d.
+module _ (list : List Marker) (count w h sx sy dx dy : ℕ) (labels region route labels′ : List ℕ) (n : ℕ)
+    (given : Rules.Gives (Rules.drive-table list count w h sx sy dx dy labels region route) n) (after : LabelsAfter list count w h n labels labels′) (z : n ≡ 0) where
   abbrev C : ℕ → ℕ → Type 0
   C = ClosedBy list count w h
 
   passed : None (Rules.drive-table list count w h sx sy dx dy labels region route)
-  passed = gives-none (Rules.drive-table list count w h sx sy dx dy labels region route) 0 (r .refusal) (omega arith) (c .given) z
+  passed = gives-none (Rules.drive-table list count w h sx sy dx dy labels region route) 0 n (omega arith) given z
 
   draws : Draws w h C labels′
-  draws = label-sheet-draws (RocksOf list count) w h labels′ (c .labels-after .labelled (λ t. omega arith))
+  draws = label-sheet-draws (RocksOf list count) w h labels′ (after .labelled (λ t. omega arith))
 
   from-open : Open w h C sx sy
   from-open = record { on = on-holds (λ n. passed .1 .1 .1 .0 (inl n)); free = λ k. passed .1 .1 .1 .1 .0 (inl k) }
@@ -85,8 +90,18 @@ module _ {list : List Marker} {count w h sx sy dx dy : ℕ} {labels region route
   to-open : Open w h C dx dy
   to-open = record { on = on-holds (λ n. passed .1 .1 .1 .0 (inr n)); free = λ k. passed .1 .1 .1 .1 .0 (inr k) }
 
-  pub drive-shortest : ShortestDrive w h C sx sy dx dy (take (r .length) route′)
-  drive-shortest =
-      driven-shortest w h C sx sy dx dy
-      (holds (has-drive-dec w h C labels′ draws sx sy dx dy) (λ n. passed .1 .1 .1 .1 .1 .0 (from-open, to-open, n)))
-      (c .done z .0)
+  there-is : HasDrive w h C sx sy dx dy
+  there-is = holds (has-drive-dec w h C labels′ draws sx sy dx dy) (λ n. passed .1 .1 .1 .1 .1 .0 (from-open, to-open, n))
+
+-- And so what it makes is one: at the route's front, or the part that is handed back.
+pub drive-shortest : {list : List Marker} {count w h sx sy dx dy : ℕ} {labels region route labels′ region′ route′ : List ℕ} {state state′ : ℕ} {r : Drove}
+    → DriveCall list count w h sx sy dx dy labels region route state labels′ region′ route′ state′ r → r .refusal ≡ 0
+    → ShortestDrive w h (ClosedBy list count w h) sx sy dx dy (take (r .length) route′)
+drive-shortest {list} {count} {w} {h} {sx} {sy} {dx} {dy} {labels} {region} {route} {labels′} c z =
+    driven-shortest w h (ClosedBy list count w h) sx sy dx dy (there-is list count w h sx sy dx dy labels region route labels′ _ (c .given) (c .labels-after) z) (c .done z .0)
+
+pub route-shortest : {list : List Marker} {count w h sx sy dx dy : ℕ} {labels region route labels′ region′ part : List ℕ} {state number state′ : ℕ} {from at : ℕ × ℕ}
+    → RouteCall list count w h sx sy dx dy labels region route state labels′ region′ part number state′ from at → number ≡ 0
+    → ShortestDrive w h (ClosedBy list count w h) sx sy dx dy part
+route-shortest {list} {count} {w} {h} {sx} {sy} {dx} {dy} {labels} {region} {route} {labels′} c z =
+    driven-shortest w h (ClosedBy list count w h) sx sy dx dy (there-is list count w h sx sy dx dy labels region route labels′ _ (c .given) (c .labels-after) z) (c .done z)

@@ -76,8 +76,8 @@ module _ {list : List Marker} {count w h : ℕ} where
   drive-exactly {sx} {sy} {dx} {dy} {labels} {region} {route} c =
       exactly (Rules.drive-table list count w h sx sy dx dy labels region route) _ (omega arith) (c .given)
 
-  pub route-exactly : {sx sy dx dy : ℕ} {labels region route labels′ region′ part : List ℕ} {state number state′ : ℕ}
-      → RouteCall list count w h sx sy dx dy labels region route state labels′ region′ part number state′
+  pub route-exactly : {sx sy dx dy : ℕ} {labels region route labels′ region′ part : List ℕ} {state number state′ : ℕ} {from at : ℕ × ℕ}
+      → RouteCall list count w h sx sy dx dy labels region route state labels′ region′ part number state′ from at
       → Exactly (Rules.drive-table list count w h sx sy dx dy labels region route) number
   route-exactly {sx} {sy} {dx} {dy} {labels} {region} {route} c =
       exactly (Rules.drive-table list count w h sx sy dx dy labels region route) _ (omega arith) (c .given)

@@ -216,13 +216,13 @@ module _ {list : List Marker} {count w h : ℕ} where
           let v = q .refused (λ j. k (e ∙ j)) in
           (u .0 ∙ sym (v .0), u .1 ∙ sym (v .1), u .2 ∙ sym (v .2))
 
-  pub route-one : {sx sy dx dy : ℕ} {labels region route a c m b d n : List ℕ} {state r s z z′ : ℕ}
-      → RouteCall list count w h sx sy dx dy labels region route state a c m r z
-      → RouteCall list count w h sx sy dx dy labels region route state b d n s z′
-      → (m ≡ n) × (r ≡ s) × (z ≡ z′) × (a ≡ b) × (c ≡ d)
+  pub route-one : {sx sy dx dy : ℕ} {labels region route a c m b d n : List ℕ} {state r s z z′ : ℕ} {from at at′ : ℕ × ℕ}
+      → RouteCall list count w h sx sy dx dy labels region route state a c m r z from at
+      → RouteCall list count w h sx sy dx dy labels region route state b d n s z′ from at′
+      → (m ≡ n) × (r ≡ s) × (z ≡ z′) × (a ≡ b) × (c ≡ d) × (at ≡ at′)
   route-one {sx} {sy} {dx} {dy} {labels} {region} {route} {m = m} {n = n} {r = r} {s = s} {z = z} {z′ = z′} p q =
       let t = go (ℕ-discrete r 0) in
-      (t .0, e, t .1, labels-after-one e (p .labels-after) (q .labels-after), region-after-one e (p .region-after) (q .region-after))
+      (t .0, e, t .1, labels-after-one e (p .labels-after) (q .labels-after), region-after-one e (p .region-after) (q .region-after), p .leading ∙ sym (q .leading))
     where
       e : r ≡ s
       e = gives-one (Rules.drive-table list count w h sx sy dx dy labels region route) _ _ (p .given) (q .given)

@@ -125,9 +125,9 @@ module _ {list other : List Marker} {count w h : ℕ} (a : Agree list other coun
         done = λ z. rw (asked-in-use a (c .given) (λ t. omega arith)) at (c .done z);
       }
 
-  pub route-unread : {sx sy dx dy : ℕ} {labels region route labels′ region′ part : List ℕ} {state number state′ : ℕ}
-      → RouteCall list count w h sx sy dx dy labels region route state labels′ region′ part number state′
-      → RouteCall other count w h sx sy dx dy labels region route state labels′ region′ part number state′
+  pub route-unread : {sx sy dx dy : ℕ} {labels region route labels′ region′ part : List ℕ} {state number state′ : ℕ} {from at : ℕ × ℕ}
+      → RouteCall list count w h sx sy dx dy labels region route state labels′ region′ part number state′ from at
+      → RouteCall other count w h sx sy dx dy labels region route state labels′ region′ part number state′ from at
   route-unread c =
       record {
         given = asked-moved a (c .given) (λ e g. rw e at g);
@@ -135,6 +135,7 @@ module _ {list other : List Marker} {count w h : ℕ} (a : Agree list other coun
         region-after = region-moved a (c .given) (c .region-after);
         refused = c .refused;
         done = λ z. rw (asked-in-use a (c .given) (λ t. omega arith)) at (c .done z);
+        leading = c .leading;
       }
 
   pub write-unread : {out out′ : List ℕ} {r : WroteMap} → WriteCall list count w h out out′ r → WriteCall other count w h out out′ r

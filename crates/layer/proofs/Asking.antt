@@ -1,10 +1,10 @@
 -- The call of `prepare`, with which every asking begins: what it is asked, and the call itself, whatever else the walk has. The list is handed on, and the
 -- label sheet is lent and comes back, as long as it was, with what `prepare` promises of it.
-use Rattle.walks.specs.Prelude.{_≡_, refl, _∙_, Bool, true, false, List, [], _∷_, ℕ, _<_, _^_, URA, fullShare, length, w8, w64, Place, Body, seq, call, Val, vint, vbool}
+use Rattle.walks.specs.Prelude.{_≡_, refl, Bool, true, false, List, [], _∷_, ℕ, _<_, _^_, URA, fullShare, length, w8, w64, Place, Body, seq, call, Val, vint, vbool}
 use Rattle.walks.specs.Prelude.{SProp, emp, id⊢, Lft, Share, GName, ftrue, flft, Memory, Routine, Heap, Env, Calls, Loops, Atoms, Fun, FmC, Given, Item, ‵, raw, _⊛_}
-use Rattle.walks.specs.Prelude.{Goal, Post, Seq, Step, step, runs, lands, _$_, move, split, join, fsplit, fjoin, feqL, feqI, Opds, uint-tells, uint-makes, bool-makes}
-use Rattle.walks.specs.Prelude.{u8, sliceVal, nothing, Clauses, Triple, called, sliceAt, mutOwn, shrOwn, lent, lastly, lends, takes-back, Promised, hands, hears}
-use Rattle.walks.specs.Prelude.{T, suc, Lfts, Denots, Valss, Ises, Are, typesAt, Form, count, asking-params, Number, at, wide, all-wide, first-wide, small-of, number-of, number-named}
+use Rattle.walks.specs.Prelude.{Post, Seq, runs, lands, _$_, move, split, join, Opds, uint-tells, uint-makes, bool-makes}
+use Rattle.walks.specs.Prelude.{u8, sliceVal, Clauses, Triple, called, sliceAt, mutOwn, shrOwn, lent, lends, takes-back, Promised, hands, hears}
+use Rattle.walks.specs.Prelude.{T, suc, Lfts, Denots, Valss, Ises, Are, typesAt, Form, count, asking-params, Number, at, nought, wide, all-wide, first-wide, small-of, number-of, number-named}
 use mir.Syntax.{Opd as Operand}
 use types.Kit.{drop}
 use Rattle.field.specs.declared.Marker.{Marker}
@@ -88,27 +88,37 @@ module _ {M : Type 1} (𝓤 : URA M) (H : Heap 𝓤) (A : Atoms 𝓤) (W : Given
       takes-back t tt u8 i′ o′ old (ws .1 .1 .1 .1 .1 .1 .1 .1 .1 .0) (vsheet ∷ []) lentSheet ν δ (λ len. move t (3 ∷ 2 ∷ []) $ join t $ move t (1 ∷ 2 ∷ 0 ∷ []) $
       go n (ws .1 .1 .1 .1 .1 .1 .1 .1 .1 .0) e len (is .1))))
 
--- What is asked, by four numbers of the asking, and that each has 64 bits; width and height are its first two. So `prepare` is handed their operands.
-module _ (F : Form) (kx ky ka kb : Number) where
-  abbrev pub Wide : Type 0
-  Wide = T (all-wide (F .widths) (at 0 ∷ at 1 ∷ kx ∷ ky ∷ ka ∷ kb ∷ []))
+-- What is asked is two places, each number of them one of the asking's numbers by its place among them, or nought; width and height are its first two.
+-- Each has 64 bits, and `prepare` is handed their operands.
+pub record Places : Type 0 where
+  pub x : Number
+  pub y : Number
+  pub a : Number
+  pub b : Number
 
-  abbrev pub places : List Operand
-  places = number-named kx ∷ number-named ky ∷ number-named ka ∷ number-named kb ∷ []
+abbrev pub no-place : Places
+no-place = record { x = nought; y = nought; a = nought; b = nought }
+
+module _ (F : Form) (ks : Places) where
+  abbrev pub Wide : Type 0
+  Wide = T (all-wide (F .widths) (at 0 ∷ at 1 ∷ ks .x ∷ ks .y ∷ ks .a ∷ ks .b ∷ []))
+
+  abbrev pub places-named : List Operand
+  places-named = number-named (ks .x) ∷ number-named (ks .y) ∷ number-named (ks .a) ∷ number-named (ks .b) ∷ []
 
   module _ (κs : Lfts (suc (suc (count (F .lent))))) (a : Denots (typesAt (asking-params T.the-row F) κs)) where
     abbrev pub asked-by : Asked
     asked-by =
         let num : Number → ℕ = number-of (F .widths) _ κs (a .1 .1) in
-        record { w = num (at 0); h = num (at 1); x = num kx; y = num ky; a = num ka; b = num kb }
+        record { w = num (at 0); h = num (at 1); x = num (ks .x); y = num (ks .y); a = num (ks .a); b = num (ks .b) }
 
     pub small-by : Wide → (vs : Valss (typesAt (asking-params T.the-row F) κs)) → Are (typesAt (asking-params T.the-row F) κs) (Ises (typesAt (asking-params T.the-row F) κs)) a vs → Small asked-by
     small-by wides vs are =
         let small : (k : Number) → T (wide (F .widths) k) → number-of (F .widths) _ κs (a .1 .1) k < 2 ^ 64 = small-of (F .widths) _ κs (a .1 .1) (vs .1 .1) (are .1 .1) in
-        let ow = first-wide (F .widths) (at 0) (at 1 ∷ kx ∷ ky ∷ ka ∷ kb ∷ []) wides in
-        let oh = first-wide (F .widths) (at 1) (kx ∷ ky ∷ ka ∷ kb ∷ []) (ow .1) in
-        let ox = first-wide (F .widths) kx (ky ∷ ka ∷ kb ∷ []) (oh .1) in
-        let oy = first-wide (F .widths) ky (ka ∷ kb ∷ []) (ox .1) in
-        let oa = first-wide (F .widths) ka (kb ∷ []) (oy .1) in
-        let ob = first-wide (F .widths) kb [] (oa .1) in
-        record { w = small (at 0) (ow .0); h = small (at 1) (oh .0); x = small kx (ox .0); y = small ky (oy .0); a = small ka (oa .0); b = small kb (ob .0) }
+        let ow = first-wide (F .widths) (at 0) (at 1 ∷ ks .x ∷ ks .y ∷ ks .a ∷ ks .b ∷ []) wides in
+        let oh = first-wide (F .widths) (at 1) (ks .x ∷ ks .y ∷ ks .a ∷ ks .b ∷ []) (ow .1) in
+        let ox = first-wide (F .widths) (ks .x) (ks .y ∷ ks .a ∷ ks .b ∷ []) (oh .1) in
+        let oy = first-wide (F .widths) (ks .y) (ks .a ∷ ks .b ∷ []) (ox .1) in
+        let oa = first-wide (F .widths) (ks .a) (ks .b ∷ []) (oy .1) in
+        let ob = first-wide (F .widths) (ks .b) [] (oa .1) in
+        record { w = small (at 0) (ow .0); h = small (at 1) (oh .0); x = small (ks .x) (ox .0); y = small (ks .y) (oy .0); a = small (ks .a) (oa .0); b = small (ks .b) (ob .0) }

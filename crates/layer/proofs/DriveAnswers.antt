@@ -194,6 +194,6 @@ module _ {list : List Marker} {count w h sx sy dx dy : ℕ} {others : Bool} {lab
           (sheet-kept (early .0) (omega (arith, early .1)) (k .1))
       go (yes z) = by-answer z (e .done z .0) (e .done z .1)
 
-  pub route-joined : {g : List ℕ} → ((others ≡ true) ↔ Fits w h (length g)) → {route t g′ part : List ℕ} {state number state′ : ℕ}
-      → RouteRest n w h sx sy dx dy s g route state t g′ part number state′ → RouteCall list count w h sx sy dx dy labels g route state t g′ part number state′
-  route-joined told e = rw (e .part-is) (drive-part (drive-joined told (e .drove)))
+  pub route-joined : {g : List ℕ} → ((others ≡ true) ↔ Fits w h (length g)) → {route t g′ part : List ℕ} {state number state′ : ℕ} {from at : ℕ × ℕ}
+      → RouteRest n w h sx sy dx dy s g route state t g′ part number state′ from at → RouteCall list count w h sx sy dx dy labels g route state t g′ part number state′ from at
+  route-joined told {from = from} e = rw (e .part-is, e .leading) (drive-part (drive-joined told (e .drove)) from)

@@ -4,22 +4,22 @@
 --
 -- An asking names its form, what it asks `prepare`, what its code does (`Rows`), and that law (`Joins`). A row says what the compiled code does with the
 -- locals, and holds by computation: `λ _ _. refl`. Where one is refused, the code does something else, or the compiler numbers the locals otherwise:
--- print it with `rt mir layer`, and hold it to the numbers at the head of `Coding.antt`. `body` is the row to known-at at first.
-use Rattle.walks.specs.Prelude.{_≡_, refl, sym, ap, subst, Bool, true, List, [], _∷_, _++_, Option, none, some, ℕ, zero, suc, _<_, _^_, URA, T, length, Name, Fn, place}
-use Rattle.walks.specs.Prelude.{copy, opdTrue, Body, seq, call, return, Width, w8, w64, Val, vint, vbool, hasTy, WT, SProp, ent, emp, id⊢, ftrue, Memory, Routine, Model}
+-- print it with `rt mir layer`, and hold it to the numbers at the head of `Coding.antt`. `body` is the row to look at first.
+use Rattle.walks.specs.Prelude.{_≡_, refl, sym, ap, subst, Bool, true, List, [], _∷_, _++_, none, some, ℕ, zero, suc, _<_, _^_, URA, T, length, Name, Fn, place}
+use Rattle.walks.specs.Prelude.{copy, opdTrue, Body, seq, call, return, Width, w8, Val, vint, vbool, hasTy, WT, SProp, ent, emp, id⊢, ftrue, Memory, Routine, Model}
 use Rattle.walks.specs.Prelude.{Heap, Env, Tables, WpFn, tyOf, spotOf, Atoms, Lfts, Shares, Fun, fact, Running, GhostRules, tables, fmOf, Given, Go, Item, ‵, raw, Post}
 use Rattle.walks.specs.Prelude.{Seq, runs, atRet, use0, _$_, !, Opds, Denots, Valss, flat, mirs, bool-tells, Ises, Are, Typed, valss, u8, sliceVal, typesAt, Clauses}
 use Rattle.walks.specs.Prelude.{Lasts, atExit, closing, Meets, Triple, cited, Known, Blocks, Passed, these, rest, envOf, locals, true-T, keeps, known-at, has, readable}
 use Rattle.walks.specs.Prelude.{values, operands, lands-in, TwoCalls, OneCall, Stmt, coded, after, Sound, straight, pays, called, lent, Promised, Form, lents, count}
 use Rattle.walks.specs.Prelude.{num-spells, asking, asking-params, answering, answering-params, Answer, answer-val, IsAnswer, Returned, returned, labels-of, labels-room}
 use Rattle.walks.specs.Prelude.{others-of, others-vals, others-are, answer-args, answer-vals, call-lasts, head, tail, trimmed, labels-local, labels-on, all-on, handed-on}
-use Rattle.walks.specs.Prelude.{to-first, answer-local, judging-params, judging, num-makes, sized, from-on, past-on, Number, at, wide, all-wide, first-wide, small-of}
-use Rattle.walks.specs.Prelude.{number-of, number-named, vals, passed, labels-at, labels-token, list-token, list-at, other-tokens, others-at, ending, begins, answered}
+use Rattle.walks.specs.Prelude.{to-first, answer-local, judging-params, judging, num-makes, sized, from-on, past-on, at}
+use Rattle.walks.specs.Prelude.{number-of, vals, passed, labels-at, labels-token, list-token, list-at, other-tokens, others-at, ending, begins, answered}
 use mir.Syntax.{Opd as Operand}
 use types.Kit.{drop}
 use prog.Routine.{Env as RoutineEnv}
 use Rattle.field.proofs.Marker as T
-use Rattle.layer.proofs.Asking.{Asked, Small, Found, Wide, places, asked-by, small-by, PrepareC, prepare-vals, prepares, to-prepare}
+use Rattle.layer.proofs.Asking.{Asked, Small, Found, Places, Wide, places-named, asked-by, small-by, PrepareC, prepare-vals, prepares, to-prepare}
 use Rattle.layer.proofs.preparing.prepare as prepare
 use Rattle.layer.proofs.preparing.prepare.Symbol as prepare-def
 use Rattle.layer.proofs.preparing.prepare.Symbol.{name as #prepare}
@@ -172,7 +172,7 @@ module _ {M : Type 1} (𝓤 : URA M) (H : Heap 𝓤) (A : Atoms 𝓤) (W : Given
         (subst (λ (ws : List Val). Opds (Go {0}) W (asks-that ∷ list-token 𝓤 H A W T.the-row F c κs qs a ∷ locals 𝓤 H A E (none ∷ us′) []) E (P .to-second) ws) (ap (λ (l : TwoCalls). l .second-handed) (row n))
         (operands (asks-that ∷ list-token 𝓤 H A W T.the-row F c κs qs a ∷ []) E [] ! (none ∷ us′) (P .to-second) (true-T (ap (λ (l : TwoCalls). l .second-read) (row n))))))))))
 
-    module _ (kx ky ka kb : Number) where
+    module _ (ks : Places) where
       -- ---- an asking that judges no sheet but the label sheet
       abbrev plain : Plan
       plain =
@@ -180,8 +180,8 @@ module _ {M : Type 1} (𝓤 : URA M) (H : Heap 𝓤) (A : Atoms 𝓤) (W : Given
           record {
             Judged = λ κs a. Unit {0};
             others = λ κs a j. true;
-            asked = asked-by F kx ky ka kb;
-            to-first = to-first (places F kx ky ka kb) opdTrue (suc (suc d));
+            asked = asked-by F ks;
+            to-first = to-first (places-named F ks) opdTrue (suc (suc d));
             answer = d;
             between = λ κs a. all-on F κs a (suc (suc (suc d)));
             to-second = handed-on F d (suc (suc (suc d)));
@@ -189,12 +189,12 @@ module _ {M : Type 1} (𝓤 : URA M) (H : Heap 𝓤) (A : Atoms 𝓤) (W : Given
           }
 
       -- Its code is the label sheet lent on, the call of `prepare`, and the rest.
-      pub asks-plainly : Wide F kx ky ka kb → ((κs : Lifetimes) (a : Arguments κs) → f .body ≡ coded (labels-on F κs a (suc (answer-local F)) ∷ []) (from-prepare plain κs a))
+      pub asks-plainly : Wide F ks → ((κs : Lifetimes) (a : Arguments κs) → f .body ≡ coded (labels-on F κs a (suc (answer-local F)) ∷ []) (from-prepare plain κs a))
           → ((κs : Lifetimes) (qs : Tokens) (a : Arguments κs) (bs : Blocks (trimmed f .locals)) → length (labels κs a) < 2 ^ 64 → Sound 𝓤 H (frame bs) (labels-on F κs a (suc (answer-local F)) ∷ []) (begun κs qs a))
           → Rows plain → (φ : Says) (φ′ : Answers) → Joins plain φ φ′
           → Meets 𝓤 H A (asking T.the-row F .signature) (WpFn 𝓤 H (𝓣 .C) (𝓣 .Λ) (trimmed f)) (closing 𝓤 H A (asking T.the-row F) c)
       asks-plainly wides body labels-lent rows φ φ′ joins =
-          asks plain rows (λ κs qs a are. small-by F kx ky ka kb κs a wides (vals 𝓤 H A W T.the-row F c κs qs a) are) φ φ′ joins (λ κs qs a are bs z go.
+          asks plain rows (λ κs qs a are. small-by F ks κs a wides (vals 𝓤 H A W T.the-row F c κs qs a) are) φ φ′ joins (λ κs qs a are bs z go.
           let E = frame bs in
           subst (λ (b : Body). Seq (Go {0}) W (at-hand κs qs a (locals 𝓤 H A E (begun κs qs a) [])) (runs (𝓣 .C) (𝓣 .Λ) E b z)) (sym (body κs a))
           (straight (at-hand κs qs a []) E [] ! (labels-on F κs a (suc (answer-local F)) ∷ []) (begun κs qs a) (from-prepare plain κs a)
@@ -226,8 +226,8 @@ module _ {M : Type 1} (𝓤 : URA M) (H : Heap 𝓤) (A : Atoms 𝓤) (W : Given
         judging-plan = record {
           Judged = λ κs a. (b : Bool) × told κs a b;
           others = λ κs a j. j .0;
-          asked = asked-by F kx ky ka kb;
-          to-first = to-first (places F kx ky ka kb) (copy (place o [])) (suc p);
+          asked = asked-by F ks;
+          to-first = to-first (places-named F ks) (copy (place o [])) (suc p);
           answer = suc o;
           between = λ κs a. all-on F κs a (suc (suc p));
           to-second = handed-on F (suc o) (suc (suc p));
@@ -255,13 +255,13 @@ module _ {M : Type 1} (𝓤 : URA M) (H : Heap 𝓤) (A : Atoms 𝓤) (W : Given
           pub may : (κs : Lifetimes) (a : Arguments κs) → ent 𝓤 (emp 𝓤) (cⱼ tt (judged κs a) .requires (ghost κs a))
           pub says : (κs : Lifetimes) (a : Arguments κs) (b : Bool) (ends : Lasts (judging ws) tt (judged κs a)) → cⱼ tt (judged κs a) .ensures (ghost κs a) b (atExit (judging ws) tt (judged κs a) ends) ≡ fact 𝓤 (told κs a b)
 
-        pub asks-judging : Wide F kx ky ka kb → JudgeRows → Rows judging-plan → (φ : Says) (φ′ : Answers) → Joins judging-plan φ φ′
+        pub asks-judging : Wide F ks → JudgeRows → Rows judging-plan → (φ : Says) (φ′ : Answers) → Joins judging-plan φ φ′
             → Meets 𝓤 H A (asking T.the-row F .signature) (WpFn 𝓤 H (𝓣 .C) (𝓣 .Λ) (trimmed f)) (closing 𝓤 H A (asking T.the-row F) c)
         asks-judging wides J rows φ φ′ joins =
-            asks judging-plan rows (λ κs qs a are. small-by F kx ky ka kb κs a wides (vals 𝓤 H A W T.the-row F c κs qs a) are) φ φ′ joins (λ κs qs a are bs z go.
+            asks judging-plan rows (λ κs qs a are. small-by F ks κs a wides (vals 𝓤 H A W T.the-row F c κs qs a) are) φ φ′ joins (λ κs qs a are bs z go.
             let E = frame bs in
             let vs = vals 𝓤 H A W T.the-row F c κs qs a in
-            let small = small-by F kx ky ka kb κs a wides vs are in
+            let small = small-by F ks κs a wides vs are in
             let us = sized-up κs qs a in
             let row = J .judge-called κs qs a bs in
             let asks-this : Promised 𝓤 H A (judging ws) cⱼ .Ghost = ((tt, tt, tt, judged κs a, judged-vals κs a), J .ghost κs a) in

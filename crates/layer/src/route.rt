@@ -21,7 +21,7 @@ pub fn drive<'a>(
     refusal: &mut u8,
     state: &mut u32,
 ) -> &'a mut [u16]
-    ensures { λ r. ⌜ RouteCall (now (list .entry)) count w h sx sy dx dy (now (labels .entry)) (now (region .entry)) (now (route .entry)) (now (state .entry)) (now (labels .exit)) (now (region .exit)) (now r) (now (refusal .exit)) (now (state .exit)) ⌝ }
+    ensures { λ r. ⌜ RouteCall (now (list .entry)) count w h sx sy dx dy (now (labels .entry)) (now (region .entry)) (now (route .entry)) (now (state .entry)) (now (labels .exit)) (now (region .exit)) (now r) (now (refusal .exit)) (now (state .exit)) (route .entry .ptr) (r .ptr) ⌝ }
 {
     let others = judging::fits(w, h, region.len());
     let n = prepare(list, count, w, h, sx, sy, dx, dy, others, labels);

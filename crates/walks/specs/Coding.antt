@@ -1,9 +1,9 @@
--- The code of an asking, by its form (`Forms.antt`): which local holds what, what is lent on, and the operands of its calls. It is told as lists, from which
--- `Straight.antt` runs it in one step.
+-- The code of an asking, by its form (`Forms.antt`): which local holds what, what is lent on, and the operands of its calls. It is told as lists, which
+-- `Straight.antt` runs in one step; that the compiled code is this code is the row `body` of each asking.
 --
--- The compiler numbers the locals so: 0 the result, 1 the list, 2 the count, from 3 on the numbers, then the label sheet, then the other things lent. After
--- these come the locals that the code makes, in the order in which it makes them: the truth whether the other sheets fit, where it is asked; the refusal
--- that `prepare` answers; the lengths that are read; and for each thing that is lent on a reference and, of a slice, the slice made of it.
+-- The compiler numbers the locals so: 0 the result, 1 the list, 2 the count, from 3 on the numbers, then the label sheet, then the other things lent. Then
+-- those that a `let` names: the truth whether the other sheets fit, where it is asked, and the refusal that `prepare` answers. Then, in the order in which
+-- the code needs them, the lengths that are read, and for each thing that is lent on a reference and, of a slice, the slice made of it.
 use mathlib.Core.Bool.{Bool, true, false}
 use mathlib.Core.List.{List, [], _∷_, _++_}
 use Prim.Native.Nat.{ℕ, zero, suc, _<_, _^_}
@@ -42,8 +42,7 @@ tail (l ∷ ls) = ls
 abbrev pub trimmed : Fn → Fn
 trimmed f = record { lifetimes = f .lifetimes; outlives = f .outlives; params = f .params; locals = head (f .locals) ∷ tail (f .locals); body = f .body }
 
--- ---- the code of an asking, by its form
--- The locals: the result, the list, the count, the numbers, the label sheet, the other things lent, then d, to which `prepare` answers, and what is lent on.
+-- The label sheet's local, where ws are the widths of the numbers before it; and the local past the things lent.
 abbrev pub labels-local : List Width → ℕ
 labels-local [] = 3
 labels-local (w ∷ ws) = suc (labels-local ws)
@@ -52,7 +51,7 @@ abbrev beyond : ℕ → List Lent → ℕ
 beyond i [] = i
 beyond i (k ∷ ks) = suc (beyond i ks)
 
--- The things lent are lent on, from local s on, into p and on; and named as operands.
+-- The things lent are lent on, from local s on, into p and on; and named as operands. A slice lent as `&` is handed on as it is.
 abbrev lent-on : (n j s p : ℕ) (ks : List Lent) (κs : Lfts n) → Denots (typesAt (lents n j ks) κs) → List Stmt
 lent-on n j s p [] κs a = []
 lent-on n j s p (sheet R ∷ ks) κs a =
@@ -73,7 +72,7 @@ abbrev numbers-named : ℕ → List Width → List Operand → List Operand
 numbers-named i [] xs = xs
 numbers-named i (w ∷ ws) xs = copy (place i []) ∷ numbers-named (suc i) ws xs
 
--- The label sheet, and after it what else is lent, is lent on from p on.
+-- The label sheet is lent on into p and the next; and after it what else is lent, from there on.
 module _ (F : Form) (κs : Lfts (suc (suc (count (F .lent))))) (a : Denots (typesAt (asking-params T.the-row F) κs)) where
   abbrev pub labels-on : ℕ → Stmt
   labels-on p =
@@ -95,7 +94,7 @@ handed-on F d p = copy (place d []) ∷ numbers-named 3 (F .widths) (copy (place
 abbrev pub to-first : List Operand → Operand → ℕ → List Operand
 to-first places others r = copy (place 1 []) ∷ copy (place 2 []) ∷ copy (place 3 []) ∷ copy (place 4 []) ∷ (places ++ (others ∷ copy (place r []) ∷ []))
 
--- An asking that judges no sheet but the label sheet.
+-- The first local that a `let` names.
 abbrev pub answer-local : Form → ℕ
 answer-local F = suc (beyond (labels-local (F .widths)) (F .lent))
 

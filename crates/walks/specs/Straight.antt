@@ -12,8 +12,9 @@ use mir.Val.{Val, vptr, vint, hasTy}
 use prog.Wp.{Heap, Env, Calls, Loops, spotOf, noLocal}
 use ghost.Atoms.{Atoms}
 use types.Kit.{Given, Item, Post, Seq, runs, _$_}
+use denote.Slice.{sliceTy}
 use Rattle.walks.specs.Frames.{Known, locals}
-use Rattle.walks.specs.Places.{keeps, known-at, has, true-T, sliceTy, sliceOf, lends-on, reads-length, passes-on}
+use Rattle.walks.specs.Places.{keeps, known-at, has, true-T, sliceOf, lends-on, reads-length, passes-on}
 
 -- A slice at (b, o), n long, that local s holds is lent on in r, by way of p; its length is read into p; or the reference that local s holds is lent on.
 pub data Stmt : Type 0 where

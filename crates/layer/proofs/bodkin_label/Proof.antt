@@ -1,6 +1,7 @@
 -- `bodkin_label` meets its promise: the walk of every asking that judges no sheet but the label sheet (`Walking.antt`), at its form.
-use Rattle.walks.specs.Prelude.{refl, [], _∷_, w64, emp, factI, givenOf, tables, tablesOf, tripleOf, entered, cited, Form, Promised, value, nought}
+use Rattle.walks.specs.Prelude.{refl, [], _∷_, w64, emp, factI, givenOf, tables, tablesOf, tripleOf, entered, cited, Form, Promised, value}
 use Rattle.layer.proofs.Walking.{prepare-known, asks-plainly}
+use Rattle.layer.proofs.Asking.{no-place}
 use denote.Struct.Laws as LL
 use Rattle.askings.proofs.Labelling as R
 use Rattle.askings.proofs.Labelling.Laws as R′
@@ -27,7 +28,7 @@ bodkin-label-spec 𝓤 H 𝓜 𝓖 𝓡 =
     entered 𝓤 H (tripleOf 𝓤 H A this.signature (this.spec 𝓤 H A (𝓜 .mem) (𝓡 .run))) (tables 𝓤 H 𝓜 𝓡 code.env .C) (tables 𝓤 H 𝓜 𝓡 code.env .Λ) #this code.function (code.unfolded 𝓤 H 𝓜 𝓡)
     (asks-plainly 𝓤 H A W F c c′ code.function (𝓜 .mem) (𝓡 .run) (tablesOf 𝓤 H 𝓜 (tables 𝓤 H 𝓜 𝓡 code.env)) #rest (prepare-known 𝓤 H 𝓜 𝓖 𝓡 code.env code.calls-layer·preparing·prepare)
     (cited 𝓤 H (Promised 𝓤 H A rest.ended c′) 𝓜 𝓡 code.env #rest rest-def.routine code.calls-askings·label (rest-thm.met 𝓤 H 𝓜 𝓖 𝓡))
-    nought nought nought nought tt (λ _ _. refl) (λ _ _ _ _ fit. ((refl, fit), tt))
+    no-place tt (λ _ _. refl) (λ _ _ _ _ fit. ((refl, fit), tt))
     (record {
       stored = λ _ _ _ t. t;
       typed = λ _ r is. LL.lawful R.the-type R′.the-laws 𝓤 H A W .typed r (LL.val R.the-type R′.the-laws r ∷ []) is .0;

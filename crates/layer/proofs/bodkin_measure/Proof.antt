@@ -1,7 +1,8 @@
 -- `bodkin_measure` meets its promise: the walk of every asking that judges other sheets too (`Walking.antt`), at its form.
 use Rattle.walks.specs.Prelude.{refl, [], _∷_, w64, emp, factI, givenOf, tables, tablesOf, tripleOf, entered, cited, Form, Promised, value, u8, w8, vint, uint-tells}
-use Rattle.walks.specs.Prelude.{sheet, nought, true, _↔_, _≡_, length, id⊢, beside}
+use Rattle.walks.specs.Prelude.{sheet, true, _↔_, _≡_, length, id⊢, beside}
 use Rattle.layer.proofs.Walking.{prepare-known, asks-judging}
+use Rattle.layer.proofs.Asking.{no-place}
 use Rattle.askings.proofs.measure as rest
 use Rattle.askings.proofs.measure.Symbol as rest-def
 use Rattle.askings.proofs.measure.Symbol.{name as #rest}
@@ -31,7 +32,7 @@ bodkin-measure-spec 𝓤 H 𝓜 𝓖 𝓡 =
     entered 𝓤 H (tripleOf 𝓤 H A this.signature (this.spec 𝓤 H A (𝓜 .mem) (𝓡 .run))) (tables 𝓤 H 𝓜 𝓡 code.env .C) (tables 𝓤 H 𝓜 𝓡 code.env .Λ) #this code.function (code.unfolded 𝓤 H 𝓜 𝓡)
     (asks-judging 𝓤 H A W F c c′ code.function (𝓜 .mem) (𝓡 .run) (tablesOf 𝓤 H 𝓜 (tables 𝓤 H 𝓜 𝓡 code.env)) #rest (prepare-known 𝓤 H 𝓜 𝓖 𝓡 code.env code.calls-layer·preparing·prepare)
     (cited 𝓤 H (Promised 𝓤 H A rest.ended c′) 𝓜 𝓡 code.env #rest rest-def.routine code.calls-askings·measure (rest-thm.met 𝓤 H 𝓜 𝓖 𝓡))
-    nought nought nought nought
+    no-place
     4 (w64 ∷ w64 ∷ w64 ∷ w64 ∷ w64 ∷ w64 ∷ []) cⱼ #judge (cited 𝓤 H (Promised 𝓤 H A judge.ended cⱼ) 𝓜 𝓡 code.env #judge judge-def.routine code.calls-judging·four-fit (judge-thm.met 𝓤 H 𝓜 𝓖 𝓡))
     (λ κs a. (a .1 .1 .0, (a .1 .1 .1 .0, (length (beside F κs a .0 .now), (length (beside F κs a .1 .0 .now), (length (beside F κs a .1 .1 .0 .now), (length (beside F κs a .1 .1 .1 .0 .now), tt)))))))
     (λ κs a b. (b ≡ true) ↔ FourFit (a .1 .1 .0) (a .1 .1 .1 .0) (length (beside F κs a .0 .now)) (length (beside F κs a .1 .0 .now)) (length (beside F κs a .1 .1 .0 .now)) (length (beside F κs a .1 .1 .1 .0 .now)))
