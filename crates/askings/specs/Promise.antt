@@ -104,8 +104,9 @@ pub record DriveRest (n w h sx sy dx dy : ℕ) (s g route : List ℕ) (z : ℕ) 
   pub route-after : RouteAfter w h (ClosedOn w h s) sx sy dx dy (r .refusal) (r .length) route z route′ z′
 
 -- route: the same drive, of which the leading part of the route is handed back, as many crossings as were filled; number and state go out through
--- lent numbers. route′ is the route as `drive` leaves it.
-pub record RouteRest (n w h sx sy dx dy : ℕ) (s g route : List ℕ) (z : ℕ) (s′ g′ part : List ℕ) (number z′ : ℕ) : Type 0 where
+-- lent numbers. route′ is the route as `drive` leaves it, and the part begins where the lent route begins.
+pub record RouteRest (n w h sx sy dx dy : ℕ) (s g route : List ℕ) (z : ℕ) (s′ g′ part : List ℕ) (number z′ : ℕ) (route-begins part-begins : ℕ × ℕ) : Type 0 where
+  pub leading : part-begins ≡ route-begins
   pub route′ : List ℕ
   pub crossings : ℕ
   pub drove : DriveRest n w h sx sy dx dy s g route z s′ g′ route′ z′ (record { refusal = number; length = crossings })

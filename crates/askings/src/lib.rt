@@ -208,7 +208,7 @@ pub fn route<'a>(
     state: &mut u32,
 ) -> &'a mut [u16]
     requires { ⌜ MayDrive n w h sx sy dx dy (now labels) (now region) ⌝ }
-    ensures { λ r. ⌜ RouteRest n w h sx sy dx dy (now (labels .entry)) (now (region .entry)) (now (route .entry)) (now (state .entry)) (now (labels .exit)) (now (region .exit)) (now r) (now (refusal .exit)) (now (state .exit)) ⌝ }
+    ensures { λ r. ⌜ RouteRest n w h sx sy dx dy (now (labels .entry)) (now (region .entry)) (now (route .entry)) (now (state .entry)) (now (labels .exit)) (now (region .exit)) (now r) (now (refusal .exit)) (now (state .exit)) (route .entry .ptr) (r .ptr) ⌝ }
 {
     let drove = drive(n, w, h, sx, sy, dx, dy, labels, region, route, state);
     *refusal = drove.refusal;

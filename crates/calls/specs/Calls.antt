@@ -103,16 +103,18 @@ pub record DriveCall (m : LentMap) (sx sy dx dy : ℕ) (labels region route : Li
   pub region-after : RegionAfter (m .width) (m .height) (ClosedBy m) sx sy dx dy (r .refusal) region region′
   pub route-after : RouteAfter (m .width) (m .height) (ClosedBy m) sx sy dx dy (r .refusal) (r .length) route state route′ state′
 
--- drive, as document 01 names its form: "the call hands back the filled part of it", empty on refusal; number and state go out through lent numbers.
--- What the rest of the route holds is DriveCall's to say: once a part of a lent slice is handed back, no promise can speak of that slice as the call
--- ends.
-pub record RouteCall (m : LentMap) (sx sy dx dy : ℕ) (labels region route : List ℕ) (state : ℕ) (labels′ region′ part : List ℕ) (number state′ : ℕ) : Type 0 where
+-- drive, as document 01 names its form: "returns the leading part of the caller's mutable route slice, empty on refusal"; number and state go out through
+-- lent numbers. A part that begins where the lent route begins, as long as it is, is the route's leading part. What the rest of the route holds is
+-- DriveCall's to say: once a part of a lent slice is handed back, no promise can speak of that slice as the call ends.
+pub record RouteCall (m : LentMap) (sx sy dx dy : ℕ) (labels region route : List ℕ) (state : ℕ) (labels′ region′ part : List ℕ) (number state′ : ℕ)
+    (route-begins part-begins : ℕ × ℕ) : Type 0 where
   pub given : Gives (Rules.drive-table m sx sy dx dy labels region route) number
   pub labels-after : LabelsAfter (RocksOf m) (m .width) (m .height) number labels labels′
   pub region-after : RegionAfter (m .width) (m .height) (ClosedBy m) sx sy dx dy number region region′
   pub empty : ¬ (number ≡ 0) → part ≡ []
   pub still : ¬ (number ≡ 0) → state′ ≡ state
   pub driven : number ≡ 0 → Driven (m .width) (m .height) (ClosedBy m) sx sy dx dy sx sy state part state′
+  pub leading : part-begins ≡ route-begins
 
 -- read: a map file into the list
 pub record ReadCall (file : List ℕ) (list list′ : List Marker) (r : ReadMap) : Type 0 where

@@ -26,7 +26,7 @@ use Rattle.markers.specs.Promise.{marker}
 use Rattle.markers.specs.Theorems
 use Rattle.markers.specs.Laws.Reached.{empty-formed}
 use Rattle.calls.specs.Rules.{LentMap, lentMap, Sized, Formed, markersIn, ClosedBy}
-use Rattle.calls.specs.Calls.{EnterCall, ClearCall, LabelCall, AssuredCall, HopCall, RegionCall, DriveCall}
+use Rattle.calls.specs.Calls.{EnterCall, ClearCall, LabelCall, AssuredCall, HopCall, RegionCall, DriveCall, RouteCall}
 use Rattle.calls.specs.Sequences.{GoesOn, Calls, Sparing, Names, SaysThere, Journey, move}
 use Rattle.calls.specs.ListCalls
 use Rattle.calls.specs.ListCalls.{MapReached, AsOften}
@@ -140,12 +140,23 @@ pub drive-is-shortest : {m : LentMap} {sx sy dx dy : ℕ} {labels region route l
     → ShortestDrive (m .width) (m .height) (ClosedBy m) sx sy dx dy (take (r .length) route′)
 drive-is-shortest = DriveCalls.drive-shortest
 
+-- The same of the drive whose part is handed back: the part is a shortest drive.
+pub route-is-shortest : {m : LentMap} {sx sy dx dy : ℕ} {labels region route labels′ region′ part : List ℕ} {state number state′ : ℕ} {from at : ℕ × ℕ}
+    → RouteCall m sx sy dx dy labels region route state labels′ region′ part number state′ from at → number ≡ 0
+    → ShortestDrive (m .width) (m .height) (ClosedBy m) sx sy dx dy part
+route-is-shortest = DriveCalls.route-shortest
+
 -- Refusal 9, asked between open ends with nothing else amiss: exactly where there is no shortest drive.
 module _ {m : LentMap} {sx sy dx dy : ℕ} {labels region : List ℕ} (fits : BetweenOpen m sx sy dx dy labels region) where
   pub drive-refused-9 : {route labels′ region′ route′ : List ℕ} {state state′ : ℕ} {r : Drove}
       → DriveCall m sx sy dx dy labels region route state labels′ region′ route′ state′ r
       → (r .refusal ≡ no-drive) ↔ (¬ HasDrive (m .width) (m .height) (ClosedBy m) sx sy dx dy)
   drive-refused-9 = DriveCalls.drive-nine fits
+
+  pub route-refused-9 : {route labels′ region′ part : List ℕ} {state number state′ : ℕ} {from at : ℕ × ℕ}
+      → RouteCall m sx sy dx dy labels region route state labels′ region′ part number state′ from at
+      → (number ≡ no-drive) ↔ (¬ HasDrive (m .width) (m .height) (ClosedBy m) sx sy dx dy)
+  route-refused-9 = DriveCalls.route-nine fits
 
   pub region-refused-9 : {labels′ region′ : List ℕ} {r : ℕ} → RegionCall m sx sy dx dy labels region labels′ region′ r
       → (r ≡ no-drive) ↔ (¬ HasDrive (m .width) (m .height) (ClosedBy m) sx sy dx dy)

@@ -16,8 +16,9 @@ use Rattle.field.specs.Workings.ChooserLaws.{driven-shortest}
 use Rattle.calls.specs.Rules
 use Rattle.calls.specs.Rules.{LentMap, Sized, OnIt, Formed, RocksOf, ClosedBy, AnEndClosed, Misfit}
 use Rattle.calls.specs.RuleLaws.{None, gives-none, holds, on-holds, sheets-fit}
-use Rattle.calls.specs.Calls.{RegionCall, DriveCall}
-use Rattle.calls.specs.Exactly.{region-exactly, drive-exactly}
+use Rattle.calls.specs.Answers.{LabelsAfter}
+use Rattle.calls.specs.Calls.{RegionCall, DriveCall, RouteCall}
+use Rattle.calls.specs.Exactly.{region-exactly, drive-exactly, route-exactly}
 use Rattle.calls.specs.declared.Drove.{Drove}
 
 -- What is asked: a region or a drive between open ends, with nothing amiss in the map, the sheets and the list.
@@ -64,17 +65,23 @@ module _ {m : LentMap} {sx sy dx dy : ℕ} {labels region : List ℕ} (f : Betwe
       → (r .refusal ≡ no-drive) ↔ (¬ HasDrive (m .width) (m .height) (ClosedBy m) sx sy dx dy)
   drive-nine c = nine (drive-exactly c .1 .1 .1 .1 .1 .0)
 
--- A drive that is not refused is a shortest drive from s to d, at the route's front.
-module _ {m : LentMap} {sx sy dx dy : ℕ} {labels region route labels′ region′ route′ : List ℕ} {state state′ : ℕ} {r : Drove}
-    (c : DriveCall m sx sy dx dy labels region route state labels′ region′ route′ state′ r) (z : r .refusal ≡ 0) where
+  pub route-nine : {route labels′ region′ part : List ℕ} {state number state′ : ℕ} {from at : ℕ × ℕ}
+      → RouteCall m sx sy dx dy labels region route state labels′ region′ part number state′ from at
+      → (number ≡ no-drive) ↔ (¬ HasDrive (m .width) (m .height) (ClosedBy m) sx sy dx dy)
+  route-nine c = nine (route-exactly c .1 .1 .1 .1 .1 .0)
+
+-- Where a drive is not refused, there is a shortest drive from s to d.
+module _ (m : LentMap) (sx sy dx dy : ℕ) (labels region route labels′ : List ℕ) (n : ℕ)
+    (given : Rules.Gives (Rules.drive-table m sx sy dx dy labels region route) n)
+    (after : LabelsAfter (RocksOf m) (m .width) (m .height) n labels labels′) (z : n ≡ 0) where
   abbrev C : ℕ → ℕ → Type 0
   C = ClosedBy m
 
   passed : None (Rules.drive-table m sx sy dx dy labels region route)
-  passed = gives-none (Rules.drive-table m sx sy dx dy labels region route) 0 (r .refusal) (omega arith) (c .given) z
+  passed = gives-none (Rules.drive-table m sx sy dx dy labels region route) 0 n (omega arith) given z
 
   draws : Draws (m .width) (m .height) C labels′
-  draws = label-sheet-draws (RocksOf m) (m .width) (m .height) labels′ (c .labels-after .labelled (λ t. omega arith))
+  draws = label-sheet-draws (RocksOf m) (m .width) (m .height) labels′ (after .labelled (λ t. omega arith))
 
   from-open : Open (m .width) (m .height) C sx sy
   from-open = record { on = on-holds (λ n. passed .1 .1 .1 .0 (inl n)); free = λ k. passed .1 .1 .1 .1 .0 (inl k) }
@@ -82,8 +89,21 @@ module _ {m : LentMap} {sx sy dx dy : ℕ} {labels region route labels′ region
   to-open : Open (m .width) (m .height) C dx dy
   to-open = record { on = on-holds (λ n. passed .1 .1 .1 .0 (inr n)); free = λ k. passed .1 .1 .1 .1 .0 (inr k) }
 
-  pub drive-shortest : ShortestDrive (m .width) (m .height) C sx sy dx dy (take (r .length) route′)
-  drive-shortest =
-      driven-shortest (m .width) (m .height) C sx sy dx dy
-      (holds (has-drive-dec (m .width) (m .height) C labels′ draws sx sy dx dy) (λ n. passed .1 .1 .1 .1 .1 .0 (record { from = from-open; to = to-open; none = n })))
-      (c .route-after .driven z)
+  pub there-is : HasDrive (m .width) (m .height) C sx sy dx dy
+  there-is =
+      holds (has-drive-dec (m .width) (m .height) C labels′ draws sx sy dx dy) (λ n. passed .1 .1 .1 .1 .1 .0 (record { from = from-open; to = to-open; none = n }))
+
+-- And so what it makes is one: at the route's front, or the part that is handed back.
+pub drive-shortest : {m : LentMap} {sx sy dx dy : ℕ} {labels region route labels′ region′ route′ : List ℕ} {state state′ : ℕ} {r : Drove}
+    → DriveCall m sx sy dx dy labels region route state labels′ region′ route′ state′ r → r .refusal ≡ 0
+    → ShortestDrive (m .width) (m .height) (ClosedBy m) sx sy dx dy (take (r .length) route′)
+drive-shortest {m} {sx} {sy} {dx} {dy} {labels} {region} {route} {labels′} c z =
+    driven-shortest (m .width) (m .height) (ClosedBy m) sx sy dx dy
+    (there-is m sx sy dx dy labels region route labels′ _ (c .given) (c .labels-after) z) (c .route-after .driven z)
+
+pub route-shortest : {m : LentMap} {sx sy dx dy : ℕ} {labels region route labels′ region′ part : List ℕ} {state number state′ : ℕ} {from at : ℕ × ℕ}
+    → RouteCall m sx sy dx dy labels region route state labels′ region′ part number state′ from at → number ≡ 0
+    → ShortestDrive (m .width) (m .height) (ClosedBy m) sx sy dx dy part
+route-shortest {m} {sx} {sy} {dx} {dy} {labels} {region} {route} {labels′} c z =
+    driven-shortest (m .width) (m .height) (ClosedBy m) sx sy dx dy
+    (there-is m sx sy dx dy labels region route labels′ _ (c .given) (c .labels-after) z) (c .driven z)

@@ -78,8 +78,8 @@ module _ {m : LentMap} where
   drive-exactly {sx} {sy} {dx} {dy} {labels} {region} {route} c =
       exactly (Rules.drive-table m sx sy dx dy labels region route) _ (omega arith) (c .given)
 
-  pub route-exactly : {sx sy dx dy : ℕ} {labels region route labels′ region′ part : List ℕ} {state number state′ : ℕ}
-      → RouteCall m sx sy dx dy labels region route state labels′ region′ part number state′
+  pub route-exactly : {sx sy dx dy : ℕ} {labels region route labels′ region′ part : List ℕ} {state number state′ : ℕ} {from at : ℕ × ℕ}
+      → RouteCall m sx sy dx dy labels region route state labels′ region′ part number state′ from at
       → Exactly (Rules.drive-table m sx sy dx dy labels region route) number
   route-exactly {sx} {sy} {dx} {dy} {labels} {region} {route} c =
       exactly (Rules.drive-table m sx sy dx dy labels region route) _ (omega arith) (c .given)

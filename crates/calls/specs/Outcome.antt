@@ -172,12 +172,12 @@ module _ {m : LentMap} where
         t .2,
       )
 
-  pub route-one : {sx sy dx dy : ℕ} {labels region route a c i b d j : List ℕ} {state r s z z′ : ℕ}
-      → RouteCall m sx sy dx dy labels region route state a c i r z → RouteCall m sx sy dx dy labels region route state b d j s z′
-      → (i ≡ j) × (r ≡ s) × (z ≡ z′) × (a ≡ b) × (c ≡ d)
+  pub route-one : {sx sy dx dy : ℕ} {labels region route a c i b d j : List ℕ} {state r s z z′ : ℕ} {from at at′ : ℕ × ℕ}
+      → RouteCall m sx sy dx dy labels region route state a c i r z from at → RouteCall m sx sy dx dy labels region route state b d j s z′ from at′
+      → (i ≡ j) × (r ≡ s) × (z ≡ z′) × (a ≡ b) × (c ≡ d) × (at ≡ at′)
   route-one {sx} {sy} {dx} {dy} {labels} {region} {route} {i = i} {j = j} {r = r} {s = s} {z = z} {z′ = z′} p q =
       let t = go (ℕ-discrete r 0) in
-      (t .0, e, t .1, labels-after-one e (p .labels-after) (q .labels-after), region-after-one e (p .region-after) (q .region-after))
+      (t .0, e, t .1, labels-after-one e (p .labels-after) (q .labels-after), region-after-one e (p .region-after) (q .region-after), p .leading ∙ sym (q .leading))
     where
       e : r ≡ s
       e = gives-one (Rules.drive-table m sx sy dx dy labels region route) _ _ (p .given) (q .given)

@@ -123,7 +123,9 @@ module _ {m : LentMap} {other : List Marker} (a : Agree (m .list) other (m .coun
         route-after = route-moved a (c .given) (c .route-after);
       }
 
-  pub route-unread : {sx sy dx dy : ℕ} {labels region route labels′ region′ part : List ℕ} {state number state′ : ℕ} → RouteCall m sx sy dx dy labels region route state labels′ region′ part number state′ → RouteCall (with-list m other) sx sy dx dy labels region route state labels′ region′ part number state′
+  pub route-unread : {sx sy dx dy : ℕ} {labels region route labels′ region′ part : List ℕ} {state number state′ : ℕ} {from at : ℕ × ℕ}
+      → RouteCall m sx sy dx dy labels region route state labels′ region′ part number state′ from at
+      → RouteCall (with-list m other) sx sy dx dy labels region route state labels′ region′ part number state′ from at
   route-unread c =
       record {
         given = asked-moved a (c .given) (λ e g. rw e at g);
@@ -132,6 +134,7 @@ module _ {m : LentMap} {other : List Marker} (a : Agree (m .list) other (m .coun
         empty = c .empty;
         still = c .still;
         driven = λ z. rw (asked-in-use a (c .given) (λ t. omega arith)) at (c .driven z);
+        leading = c .leading;
       }
 
   pub write-unread : {out out′ : List ℕ} {r : WroteMap} → WriteCall m out out′ r → WriteCall (with-list m other) out out′ r

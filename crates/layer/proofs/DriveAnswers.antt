@@ -50,6 +50,7 @@ module _ {m : LentMap} {sx sy dx dy : ℕ} {others : Bool} {labels s : List ℕ}
         route-after = route-after-same (m .width) (m .height) (λ z. closed-alike p (q .passed (none-early z))) (e .route-after);
       }
 
-  pub route-joined : {route t g′ part : List ℕ} {state number state′ : ℕ} → RouteRest n (m .width) (m .height) sx sy dx dy s g route state t g′ part number state′
-      → RouteCall m sx sy dx dy labels g route state t g′ part number state′
-  route-joined e = rw (e .part-is) (drive-part (drive-joined (e .drove)))
+  pub route-joined : {route t g′ part : List ℕ} {state number state′ : ℕ} {from at : ℕ × ℕ}
+      → RouteRest n (m .width) (m .height) sx sy dx dy s g route state t g′ part number state′ from at
+      → RouteCall m sx sy dx dy labels g route state t g′ part number state′ from at
+  route-joined {from = from} e = rw (e .part-is, e .leading) (drive-part (drive-joined (e .drove)) from)

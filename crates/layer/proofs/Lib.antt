@@ -7,4 +7,3 @@ mod LabelAnswers
 mod DriveAnswers
 mod Asking
 mod Walking
-mod Prelude

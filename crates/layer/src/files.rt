@@ -1,5 +1,5 @@
 // The two map-file calls: the list written as a map file, and a map file read into the list.
-use super::prepare;
+use super::preparing::prepare;
 use calls::ReadMap;
 use calls::WroteMap;
 use field::MOST_CROSSINGS;

@@ -1,5 +1,6 @@
 // The public calls over the lent list of marker records. No call relies on its caller: each answers by the lowest refusal that applies, or succeeds.
-mod files; // files.rt: the two map-file calls
+pub mod files; // files.rt: the two map-file calls
+mod preparing; // preparing.rt: the first part of every asking
 pub mod route; // route.rt: the drive, of which a part of the route is handed back
 
 use calls::Assurance;
@@ -11,9 +12,10 @@ use calls::Labelling;
 use field::Marker;
 use field::refusals::ID_NOT_IN_USE;
 use field::refusals::SUCCESS;
+use preparing::prepare;
 ghost use Rattle.calls.specs.Rules.{Gives, lentMap};
 ghost use Rattle.calls.specs.Calls.{EnterCall, ClearCall, LabelCall, DistancesCall, MeasureCall, AssuredCall, HopCall, RegionCall, DriveCall};
-ghost use Rattle.layer.specs.Prepared.{Prepared, found-table};
+ghost use Rattle.layer.specs.Prepared.{found-table};
 
 // What is found of the map, the list and an id: refusal 1 or 3, or the id in use, 5, or not in use, 6.
 fn seek(list: &[Marker], count: usize, w: usize, h: usize, id: u16) -> u8
@@ -84,32 +86,6 @@ pub extern "C" fn bodkin_clear(
         refusal: SUCCESS,
         count: next,
     }
-}
-
-// The first part of every asking: the lowest of refusals 1 to 4, and where there is none, 0, and the rocks stamped on the label sheet. `others` tells
-// whether every other lent sheet is of the map's size; (x, y) and (a, b) are the places asked; a call that
-// asks no place names (0, 0) twice, which is on every map.
-fn prepare(
-    list: &[Marker],
-    count: usize,
-    w: usize,
-    h: usize,
-    x: usize,
-    y: usize,
-    a: usize,
-    b: usize,
-    others: bool,
-    labels: &mut [u8],
-) -> u8
-    ensures { λ r. ⌜ Prepared (lentMap (now (list .entry)) count w h) x y a b others (now (labels .entry)) (now (labels .exit)) r ⌝ }
-{
-    let well = records::well_formed(list, count, w, h);
-    let n = judging::lowest(w, h, labels.len(), others, well, x, y, a, b);
-    if n != SUCCESS {
-        return n;
-    }
-    records::stamp(list, count, w, h, labels);
-    SUCCESS
 }
 
 // Labels the map. Hands back the numbers of rocks' crossings, shut crossings and groups, or the refusal: 1, 2 or 3.

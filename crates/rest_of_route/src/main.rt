@@ -4,6 +4,7 @@
 use field::Marker;
 ghost use mathlib.Core.List.{[], _∷_};
 ghost use Prim.Native.Nat.{_≤_};
+ghost use Rattle.calls.specs.Rules.{lentMap};
 ghost use Rattle.calls.specs.Calls.{RouteCall};
 
 // The buffer's slots, and what they hold beforehand.
@@ -27,7 +28,7 @@ fn drive<'a>(
     refusal: &mut u8,
     state: &mut u32,
 ) -> &'a mut [u16]
-    ensures { λ r. ⌜ RouteCall (rock ∷ []) 1 w h sx sy dx dy (now (labels .entry)) (now (region .entry)) (now (route .entry)) (now (state .entry)) (now (labels .exit)) (now (region .exit)) (now r) (now (refusal .exit)) (now (state .exit)) ⌝ }
+    ensures { λ r. ⌜ RouteCall (lentMap (rock ∷ []) 1 w h) sx sy dx dy (now (labels .entry)) (now (region .entry)) (now (route .entry)) (now (state .entry)) (now (labels .exit)) (now (region .exit)) (now r) (now (refusal .exit)) (now (state .exit)) (route .entry .ptr) (r .ptr) ⌝ }
 {
     let list = [rock];
     layer::route::drive(

@@ -10,6 +10,9 @@ pub mod Handing
 pub mod Returning
 pub mod Arrays
 pub mod Places
+pub mod Straight
 pub mod Forms
+pub mod Passing
+pub mod Coding
 pub mod Asks
 pub mod Prelude

@@ -1,5 +1,7 @@
--- `bodkin_label` meets its contract: the walk of every asking (`Walking.antt`), at its form.
-use Rattle.layer.proofs.Prelude.{refl, [], _∷_, w64, emp, factI, givenOf, tables, tablesOf, tripleOf, entered, cited, Form, Promised, asks-plainly, prepare-known, nought}
+-- `bodkin_label` meets its promise: the walk of every asking that judges no sheet but the label sheet (`Walking.antt`), at its form.
+use Rattle.walks.specs.Prelude.{refl, [], _∷_, w64, emp, factI, givenOf, tables, tablesOf, tripleOf, entered, cited, Form, Promised, value}
+use Rattle.layer.proofs.Walking.{prepare-known, asks-plainly}
+use Rattle.layer.proofs.Asking.{no-place}
 use denote.Struct.Laws as LL
 use Rattle.calls.proofs.Labelling as R
 use Rattle.calls.proofs.Labelling.Laws as R′
@@ -14,7 +16,7 @@ use Rattle.layer.proofs.bodkin_label.Statement as stated
 use Rattle.layer.proofs.bodkin_label.Code as code
 
 abbrev F : Form
-F = record { widths = w64 ∷ w64 ∷ []; lent = []; result = R.the-row }
+F = record { widths = w64 ∷ w64 ∷ []; lent = []; result = value R.the-row (LL.val R.the-type R′.the-laws) (LL.tells R.the-type R′.the-laws) }
 
 pub bodkin-label-spec : {M : Type 1} → stated.statement M
 unfolding code.routine tablesOf
@@ -24,13 +26,19 @@ bodkin-label-spec 𝓤 H 𝓜 𝓖 𝓡 =
     let c = this.clauses 𝓤 H A (𝓜 .mem) (𝓡 .run) in
     let c′ = rest.clauses 𝓤 H A (𝓜 .mem) (𝓡 .run) in
     entered 𝓤 H (tripleOf 𝓤 H A this.signature (this.spec 𝓤 H A (𝓜 .mem) (𝓡 .run))) (tables 𝓤 H 𝓜 𝓡 code.env .C) (tables 𝓤 H 𝓜 𝓡 code.env .Λ) #this code.function (code.unfolded 𝓤 H 𝓜 𝓡)
-    (asks-plainly 𝓤 H A W (𝓜 .mem) (𝓡 .run) (tablesOf 𝓤 H 𝓜 (tables 𝓤 H 𝓜 𝓡 code.env)) F c c′ #rest
-    (prepare-known 𝓤 H 𝓜 𝓖 𝓡 code.env code.calls-layer·prepare)
+    (asks-plainly 𝓤 H A W F c c′ code.function (𝓜 .mem) (𝓡 .run) (tablesOf 𝓤 H 𝓜 (tables 𝓤 H 𝓜 𝓡 code.env)) #rest (prepare-known 𝓤 H 𝓜 𝓖 𝓡 code.env code.calls-layer·preparing·prepare)
     (cited 𝓤 H (Promised 𝓤 H A rest.ended c′) 𝓜 𝓡 code.env #rest rest-def.routine code.calls-askings·label (rest-thm.met 𝓤 H 𝓜 𝓖 𝓡))
-    (LL.val R.the-type R′.the-laws) (LL.tells R.the-type R′.the-laws) (LL.makes R.the-type R′.the-plain 𝓤 H A)
-    code.function (λ r is. LL.lawful R.the-type R′.the-laws 𝓤 H A W .typed r (LL.val R.the-type R′.the-laws r ∷ []) is .0) (λ κs qs a t. t)
-    nought nought nought nought (tt, (tt, (tt, (tt, (tt, tt)))))
-    (λ _ _. refl) (λ _ _ _ _ fit. ((refl, (refl, (refl, (tt, (refl, (refl, (refl, (tt, fit)))))))), tt)) (λ _ _ _ _. tt) (λ _ _ _ _. refl) (λ _ _ _ _. refl) (λ _ _. tt)
-    (λ _ _ _ _ _ fit _. ((refl, (refl, (refl, (tt, (refl, (refl, (refl, (tt, fit)))))))), tt)) (λ _ _ _ _. refl) (λ _ _ _ _ _. tt) (λ _ _ _ _ _. refl)
-    (λ _ _ _ _. tt) (λ κs a n s p. factI 𝓤 _ (emp 𝓤) (label-may p)) _ _ (λ _ _ _ _ _. refl) (λ _ _ _ _ _ _. refl)
-    (λ κs a n s p r ws answer. label-joined p answer))
+    no-place tt (λ _ _. refl) (λ _ _ _ _ fit. ((refl, fit), tt))
+    (record {
+      stored = λ _ _ _ t. t;
+      typed = λ _ r is. LL.lawful R.the-type R′.the-laws 𝓤 H A W .typed r (LL.val R.the-type R′.the-laws r ∷ []) is .0;
+      calls = λ _ _ _ _ _ _. refl;
+      lent-on = λ _ _ _ _ _ _ fit are. ((refl, fit), tt);
+    })
+    _ _ (record {
+      ghost = λ _ _ _ _. tt;
+      may = λ κs a j n s p. factI 𝓤 _ (emp 𝓤) (label-may p);
+      says = λ _ _ _ _ _. refl;
+      answers = λ _ _ _ _ _ _. refl;
+      joined = λ κs a j n s p r ws answer. label-joined p answer;
+    }))

@@ -1,6 +1,6 @@
 -- `seek` meets its contract: a walk of its code by hand. The list is lent to `well_formed`, and where it is good to `place_of`; then the marker that
 -- stands in the id's place is read.
-use Rattle.walks.specs.Prelude.{Bool, true, false, _↔_, _≡_, refl, List, [], _∷_, none, some as held, ℕ, _*_, _<_, _^_, arith, URA, length, lit<, leb→le, nleb→lt, named, w8, w16}
+use Rattle.walks.specs.Prelude.{marker-size, Bool, true, false, _↔_, _≡_, refl, List, [], _∷_, none, some as held, ℕ, _*_, _<_, _^_, arith, URA, length, lit<, leb→le, nleb→lt, named, w8, w16}
 use Rattle.walks.specs.Prelude.{w64, Val, vint, vbool, SProp, ent, emp, id⊢, Lft, Share, GName, ftrue, flft, Memory, Routine, Heap, WpFn, Tables, Atoms, Fun, factI, givenOf, tables, tablesOf}
 use Rattle.walks.specs.Prelude.{fmOf, Given, Item, ‵, _⊛_, ⋆, _$_, _∵_, !, qed, move, split, join, look, look-raw, init, stop, hop, from, load, lit, of-opd, bin, and-then}
 use Rattle.walks.specs.Prelude.{no-more, land, returns, owns, uint-vals, uint-tells, uint-makes, bool-tells, bool-makes, u16, usize, RefT, sliceVal, ShrSlice, Room, slice-vals, shr-slice-tells, nothing, Clauses, Vals, onEntry, Meets, tripleOf, Triple}
@@ -143,9 +143,9 @@ module _ {M : Type 1} (𝓤 : URA M) (H : Heap 𝓤) (A : Atoms 𝓤) (W : Given
         leaves ! (token ∷ []) (held _ ∷ held _ ∷ held _ ∷ held _ ∷ held _ ∷ held _ ∷ held _ ∷ held _ ∷ held _ ∷ held _ ∷ [])
         (exits 6 (lit< tt) (found-none (good .0) (good .1) stands (leb→le count k past))))
         (λ test. let below : k < count = nleb→lt count k test in
-        let size : length ys * 6 < 2 ^ 63 = room .1 in
+        let size : length ys * marker-size < 2 ^ 63 = room .1 in
         let inside : k < length ys = omega (arith, good .1 .lent) in
-        let f₁ : k * 6 < 2 ^ 64 = omega arith in
+        let f₁ : k * marker-size < 2 ^ 64 = omega arith in
         -- list[k]
         sets ! (bin ! (var ! 10 refl) (lit ! tt) (record { fits = f₁ })) 12 refl (tt, record { fits = f₁ }) $
         sets ! (bin ! (field-of ! 3 0 refl refl refl) (var ! 12 refl) tt) 13 refl (tt, tt) $

@@ -1,5 +1,5 @@
 -- `place_of` meets its contract: a walk of its code by hand. The loop keeps Placing, and the middle lies from lo on and below hi, so that the two close up.
-use Rattle.walks.specs.Prelude.{_≡_, refl, List, [], _∷_, _++_, none, some as held, ℕ, _+_, _-_, _*_, _/_, _<_, _≤_, _^_, arith, URA, length, ltb→lt, nltb→le, lit<, named, w16}
+use Rattle.walks.specs.Prelude.{marker-size, _≡_, refl, List, [], _∷_, _++_, none, some as held, ℕ, _+_, _-_, _*_, _/_, _<_, _≤_, _^_, arith, URA, length, ltb→lt, nltb→le, lit<, named, w16}
 use Rattle.walks.specs.Prelude.{w64, Val, vint, SProp, ent, Lft, Share, GName, ftrue, flft, Memory, Routine, Heap, WpFn, Tables, Atoms, Fun, givenOf, tables, tablesOf, Given, Item, ‵, _⊛_}
 use Rattle.walks.specs.Prelude.{⋆, Sq, _$_, _∵_, !, qed, move, split, join, fsplit, fjoin, frame, suffices, done, look, init, store, forget, stop, hop, fld, from, load, lit}
 use Rattle.walks.specs.Prelude.{of-opd, bin, assigns, assigns-last, branches, returns, whole, sub, look-in, owns, Is, uint-vals, uint-tells, uint-makes, u16, usize, RefT, sliceVal, ShrSlice, Room, slice-vals, shr-slice-tells, owned, nothing}
@@ -80,7 +80,7 @@ module _ {M : Type 1} (𝓤 : URA M) (H : Heap 𝓤) (A : Atoms 𝓤) (W : Given
           tested ! ρ s (var ! 9 refl)
           (λ test. let less : s .0 < s .1 .0 = ltb→lt (s .0) (s .1 .0) test in
           let order : s .0 ≤ s .1 .0 = p .order in
-          let size : length ys * 6 < 2 ^ 63 = room .1 in
+          let size : length ys * marker-size < 2 ^ 63 = room .1 in
           let upto : s .1 .0 ≤ count = p .upto in
           let lent : count ≤ length ys = rises .lent in
           let f₁ : s .1 .0 - s .0 < 2 ^ 64 = omega arith in
@@ -88,7 +88,7 @@ module _ {M : Type 1} (𝓤 : URA M) (H : Heap 𝓤) (A : Atoms 𝓤) (W : Given
           let above : s .0 ≤ s .0 + (s .1 .0 - s .0) / 2 = omega arith in
           let below : s .0 + (s .1 .0 - s .0) / 2 < s .1 .0 = omega arith in
           let f₃ : s .0 + (s .1 .0 - s .0) / 2 < 2 ^ 64 = omega arith in
-          let f₄ : (s .0 + (s .1 .0 - s .0) / 2) * 6 < 2 ^ 64 = omega arith in
+          let f₄ : (s .0 + (s .1 .0 - s .0) / 2) * marker-size < 2 ^ 64 = omega arith in
           let f₅ : s .0 + (s .1 .0 - s .0) / 2 + 1 < 2 ^ 64 = omega arith in
           let inside : s .0 + (s .1 .0 - s .0) / 2 < length ys = omega arith in
           sets ! (bin ! (var ! 7 refl) (var ! 6 refl) order) 10 refl (tt, record { fits = f₁ }) $

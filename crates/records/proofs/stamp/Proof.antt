@@ -1,5 +1,5 @@
 -- `stamp` meets its contract: a walk of its code by hand. The sheet is lent to `wipe`, and in each turn to `mark`; the loop keeps Stamping.
-use Rattle.walks.specs.Prelude.{_≡_, refl, sym, ap, subst, _∙_, List, [], _∷_, _++_, none, some as held, ℕ, _+_, _-_, _*_, _<_, _≤_, _^_, zero-le, arith, URA, fullShare, length}
+use Rattle.walks.specs.Prelude.{marker-size, _≡_, refl, sym, ap, subst, _∙_, List, [], _∷_, _++_, none, some as held, ℕ, _+_, _-_, _*_, _<_, _≤_, _^_, zero-le, arith, URA, fullShare, length}
 use Rattle.walks.specs.Prelude.{set, ltb→lt, nltb→le, lit<, named, w8, w64, Val, vint, vunit, SProp, ent, emp, id⊢, Lft, Share, GName, ftrue, flft, Memory, Routine, Heap, WpFn, Tables}
 use Rattle.walks.specs.Prelude.{Atoms, Fun, fact, factI, givenOf, tables, tablesOf, fmOf, Given, Item, ‵, raw, _⊛_, ⋆, Sq, _$_, _∵_, !, qed, by, move, keep, use2, split}
 use Rattle.walks.specs.Prelude.{join, fsplit, fjoin, frame, suffices, done, look, look-raw, init, store, forget, stop, hop, fld, from, load, lit, unit-lit, of-opd, bin, addr, and-then, no-more, land}
@@ -107,11 +107,11 @@ module _ {M : Type 1} (𝓤 : URA M) (H : Heap 𝓤) (A : Atoms 𝓤) (W : Given
           assigns ! (bin ! (load ! (from ! (stop !)) (look ! 10 refl)) (load ! (from ! (stop !)) (look ! 6 refl)) tt) (from ! (stop !)) (init ! 14 refl (tt, tt)) $
           tested ! ρ s (load ! (from ! (stop !)) (look ! 14 refl))
           (λ test. let less : s .0 < count = ltb→lt (s .0) count test in
-          let size : length ys * 6 < 2 ^ 63 = room .1 in
+          let size : length ys * marker-size < 2 ^ 63 = room .1 in
           let inside : s .0 < length ys = omega (arith, may .formed .lent) in
           let on : On w h (slot ys (s .0) .x) (slot ys (s .0) .y) = may .formed .on (s .0) less in
           let within : number w (slot ys (s .0) .x) (slot ys (s .0) .y) < length (s .1 .0) = omega (arith, number-lt w h _ _ on, f .size) in
-          let f₁ : s .0 * 6 < 2 ^ 64 = omega arith in
+          let f₁ : s .0 * marker-size < 2 ^ 64 = omega arith in
           let f₂ : s .0 + 1 < 2 ^ 64 = omega arith in
           assigns ! (addr ! (from ! (fld ! refl (hop ! (look-in ! 9 (sub ! 0 refl (whole !))) (stop !))))) (from ! (stop !)) (init ! 16 refl (tt, tt)) $
           assigns ! (agg ! (and-then ! (load ! (from ! (stop !)) (look ! 16 refl)) (and-then ! (load ! (from ! (fld ! refl (stop !))) (look-in ! 9 (sub ! 1 refl (whole !)))) (no-more !)))) (from ! (stop !)) (init ! 17 refl (tt, (tt, (record { fits = room′ .0 }, tt)))) $

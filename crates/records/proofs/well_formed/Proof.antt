@@ -1,5 +1,5 @@
 -- `well_formed` meets its contract: a walk of its code by hand. The loop keeps Forming.
-use Rattle.walks.specs.Prelude.{_≡_, refl, sym, ap, subst, _∙_, Bool, true, false, not, List, [], _∷_, _++_, none, some as held, _↔_, ℕ, _+_, _-_, _*_, _<_, _≤_, _^_}
+use Rattle.walks.specs.Prelude.{marker-size, _≡_, refl, sym, ap, subst, _∙_, Bool, true, false, not, List, [], _∷_, _++_, none, some as held, _↔_, ℕ, _+_, _-_, _*_, _<_, _≤_, _^_}
 use Rattle.walks.specs.Prelude.{arith, URA, fullShare, length, T as Holds, ltb→lt, nltb→le, lit<, named, w16, w64, Val, vint, vbool, SProp, ent, emp, id⊢, Lft, Share, GName, Fml, ftrue, flft}
 use Rattle.walks.specs.Prelude.{Memory, Routine, Heap, Env, WpFn, Tables, Atoms, Fun, fact, givenOf, tables, tablesOf, fmOf, Given, Item, ‵, raw, _⊛_, ⋆, Sq, runs, atRet, _$_, _∵_}
 use Rattle.walks.specs.Prelude.{ !, qed, by, move, keep, use0, use1, split, join, fsplit, fjoin, frame, suffices, done, look, look-raw, init, store, forget, stop, hop, fld, from, load}
@@ -107,9 +107,9 @@ module _ {M : Type 1} (𝓤 : URA M) (H : Heap 𝓤) (A : Atoms 𝓤) (W : Given
           tested ! ρ s (load ! (from ! (stop !)) (look ! 13 refl))
           (λ test. let k : ℕ = s .0 in
           let less : s .0 < count = ltb→lt (s .0) count test in
-          let size : length ys * 6 < 2 ^ 63 = room .1 in
+          let size : length ys * marker-size < 2 ^ 63 = room .1 in
           let inside : s .0 < length ys = omega (arith, within .within) in
-          let f₁ : s .0 * 6 < 2 ^ 64 = omega arith in
+          let f₁ : s .0 * marker-size < 2 ^ 64 = omega arith in
           let f₂ : s .0 + 1 < 2 ^ 64 = omega arith in
           -- m = list[k]
           assigns ! (bin ! (load ! (from ! (stop !)) (look ! 8 refl)) (lit ! tt) (record { fits = f₁ })) (from ! (stop !)) (init ! 14 refl (tt, record { fits = f₁ })) $

@@ -46,7 +46,7 @@ use Rattle.field.proofs.Marker.Laws as T′
 use Rattle.walks.specs.Steps.{var, sets, relends}
 use Rattle.walks.specs.Frames.{enters, leaves}
 use Rattle.walks.specs.Calls.{called-owning}
-use Rattle.walks.specs.Lending.{sliceAt, Known, shows-row, row-shown}
+use Rattle.walks.specs.Lending.{sliceAt, SliceIs, shows-row, row-shown}
 use Rattle.walks.specs.Meeting.{Promised, asked-nothing, meets}
 use Rattle.walks.specs.Handing.{takes, hands, hears, ends-owning}
 use Rattle.walks.specs.Slots.{mach, IsMarker, marker-typed}

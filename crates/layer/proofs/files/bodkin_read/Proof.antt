@@ -4,7 +4,7 @@ use Rattle.walks.specs.Prelude.{_≡_, refl, sym, ap, _∙_, true, false, List,
 use Rattle.walks.specs.Prelude.{w8, w64, Val, vint, vunit, SProp, ent, emp, Lft, Share, GName, ftrue, flft, Memory, Routine, Heap, WpFn, Tables, Atoms, Fun, factI, givenOf, tables, tablesOf}
 use Rattle.walks.specs.Prelude.{fmOf, Given, Item, ‵, _⊛_, ⋆, _$_, _∵_, !, qed, move, split, join, fsplit, look, init, stop, hop, fld, from, of-opd, addr, and-then, no-more}
 use Rattle.walks.specs.Prelude.{land, returns, whole, sub, look-in, agg, owns, Is, uint-makes, nothing-tells, u8, RefT, sliceVal, ShrSlice, MutSlice, Room, slice-vals, shr-slice-tells, mut-slice-tells, nothing, Clauses, Vals, onEntry, Meets}
-use Rattle.walks.specs.Prelude.{tripleOf, Triple, entered, cited, var, sets, field-of, enters, leaves, called, hands, ends-with, sliceAt, lastly, Known, lends-row, row-back, shows-row, row-shown, Promised, asked-nothing, meets}
+use Rattle.walks.specs.Prelude.{tripleOf, Triple, entered, cited, var, sets, field-of, enters, leaves, called, hands, ends-with, sliceAt, lastly, SliceIs, lends-row, row-back, shows-row, row-shown, Promised, asked-nothing, meets}
 use types.Kit.{drop}
 use denote.Struct.Laws as LL
 use Rattle.field.specs.Limits.{crossing-slots, most-crossings-is}
@@ -50,7 +50,7 @@ height-fits r is = LL.owed TR.the-type TR′.the-laws r (answer r ∷ []) is .1 
 whole-length : (zs : List ℕ) → length zs ≡ length (zeros crossing-slots) → length zs ≡ crossing-slots
 whole-length zs e = e ∙ zeros-length crossing-slots
 
-whole-known : (b : ℕ) (zs : List ℕ) → length zs ≡ crossing-slots → Known u8 b 0 zs (sliceVal (b, 0) crossing-slots ∷ [])
+whole-known : (b : ℕ) (zs : List ℕ) → length zs ≡ crossing-slots → SliceIs u8 b 0 zs (sliceVal (b, 0) crossing-slots ∷ [])
 whole-known b zs e = (ap (λ (n : ℕ). sliceVal (b, 0) n ∷ []) (sym e), (omega arith, omega arith))
 
 -- It has a bit for each crossing that a map may have.

@@ -5,7 +5,7 @@ use Rattle.walks.specs.Prelude.{drop as past, length-append, length-drop, lit<,
 use Rattle.walks.specs.Prelude.{Atoms, Fun, factI, givenOf, tables, tablesOf, fmOf, Given, Item, ‵, raw, _⊛_, ⋆, _$_, _∵_, !, qed, move, use0, split, join, fsplit, look, init}
 use Rattle.walks.specs.Prelude.{stop, hop, fld, from, load, lit, true-lit, addr, and-then, no-more, land, assigns, returns, whole, sub, look-in, agg, owns, Is, uint-vals, uint-tells, uint-makes, bool-makes, u8}
 use Rattle.walks.specs.Prelude.{usize, RefT, sliceVal, ShrSlice, MutSlice, Room, slice-vals, shr-slice-tells, mut-slice-tells, nothing, Clauses, Vals, onEntry, Meets, tripleOf, Triple, entered, cited, enters, leaves, pays, called, hands, ends-with}
-use Rattle.walks.specs.Prelude.{sliceAt, lastly, Known, lends-row, row-back, shows-row, row-shown, Promised, asked-nothing, meets}
+use Rattle.walks.specs.Prelude.{sliceAt, lastly, SliceIs, lends-row, row-back, shows-row, row-shown, Promised, asked-nothing, meets}
 use lib.Seq.{length-take-le}
 use types.Kit.{drop}
 use denote.Struct.Laws as LL
@@ -26,10 +26,10 @@ use Rattle.exchange.proofs.area as area
 use Rattle.exchange.proofs.area.Symbol as area-def
 use Rattle.exchange.proofs.area.Symbol.{name as #area}
 use Rattle.exchange.proofs.area.Met as area-thm
-use Rattle.layer.proofs.prepare as prepare
-use Rattle.layer.proofs.prepare.Symbol as prepare-def
-use Rattle.layer.proofs.prepare.Symbol.{name as #prepare}
-use Rattle.layer.proofs.prepare.Met as prepare-thm
+use Rattle.layer.proofs.preparing.prepare as prepare
+use Rattle.layer.proofs.preparing.prepare.Symbol as prepare-def
+use Rattle.layer.proofs.preparing.prepare.Symbol.{name as #prepare}
+use Rattle.layer.proofs.preparing.prepare.Met as prepare-thm
 use Rattle.exchange.proofs.write_stamped as rest
 use Rattle.exchange.proofs.write_stamped.Symbol as rest-def
 use Rattle.exchange.proofs.write_stamped.Symbol.{name as #rest}
@@ -54,7 +54,7 @@ unfolding side
 whole-length s zs l e = omega (arith, length-append zs (past s (zeros crossing-slots)), length-drop s (zeros crossing-slots), zeros-length crossing-slots)
 
 -- What is known of it as a slice, whatever it holds.
-front-known : (b s : ℕ) (zs : List ℕ) → s ≤ side * side → length zs ≡ s → Known u8 b 0 zs (sliceVal (b, 0) s ∷ [])
+front-known : (b s : ℕ) (zs : List ℕ) → s ≤ side * side → length zs ≡ s → SliceIs u8 b 0 zs (sliceVal (b, 0) s ∷ [])
 unfolding side
 front-known b s zs l e = (ap (λ (n : ℕ). sliceVal (b, 0) n ∷ []) (sym e), (omega arith, omega arith))
 
@@ -240,5 +240,5 @@ bodkin-write-spec 𝓤 H 𝓜 𝓖 𝓡 =
     #this code.function (code.unfolded 𝓤 H 𝓜 𝓡)
     (write-meets 𝓤 H (𝓖 .A) (givenOf 𝓤 H 𝓜 𝓖) (𝓜 .mem) (𝓡 .run) (tablesOf 𝓤 H 𝓜 (tables 𝓤 H 𝓜 𝓡 code.env))
     (cited 𝓤 H (Promised 𝓤 H (𝓖 .A) area.ended (area.clauses 𝓤 H (𝓖 .A) (𝓜 .mem) (𝓡 .run))) 𝓜 𝓡 code.env #area area-def.routine code.calls-exchange·area (area-thm.met 𝓤 H 𝓜 𝓖 𝓡))
-    (cited 𝓤 H (Promised 𝓤 H (𝓖 .A) prepare.ended (prepare.clauses 𝓤 H (𝓖 .A) (𝓜 .mem) (𝓡 .run))) 𝓜 𝓡 code.env #prepare prepare-def.routine code.calls-layer·prepare (prepare-thm.met 𝓤 H 𝓜 𝓖 𝓡))
+    (cited 𝓤 H (Promised 𝓤 H (𝓖 .A) prepare.ended (prepare.clauses 𝓤 H (𝓖 .A) (𝓜 .mem) (𝓡 .run))) 𝓜 𝓡 code.env #prepare prepare-def.routine code.calls-layer·preparing·prepare (prepare-thm.met 𝓤 H 𝓜 𝓖 𝓡))
     (cited 𝓤 H (Promised 𝓤 H (𝓖 .A) rest.ended (rest.clauses 𝓤 H (𝓖 .A) (𝓜 .mem) (𝓡 .run))) 𝓜 𝓡 code.env #rest rest-def.routine code.calls-exchange·write-stamped (rest-thm.met 𝓤 H 𝓜 𝓖 𝓡)))

@@ -27,10 +27,10 @@ use Rattle.judging.proofs.lowest as lowest
 use Rattle.judging.proofs.lowest.Symbol as lowest-def
 use Rattle.judging.proofs.lowest.Symbol.{name as #lowest}
 use Rattle.judging.proofs.lowest.Met as lowest-thm
-use Rattle.layer.proofs.prepare.Key.{name as #prepare}
-use Rattle.layer.proofs.prepare as this
-use Rattle.layer.proofs.prepare.Statement as stated
-use Rattle.layer.proofs.prepare.Code as code
+use Rattle.layer.proofs.preparing.prepare.Key.{name as #prepare}
+use Rattle.layer.proofs.preparing.prepare as this
+use Rattle.layer.proofs.preparing.prepare.Statement as stated
+use Rattle.layer.proofs.preparing.prepare.Code as code
 
 module _ {M : Type 1} (𝓤 : URA M) (H : Heap 𝓤) (A : Atoms 𝓤) (W : Given 𝓤 H A) (mem : Memory → SProp 𝓤) (run : Routine → Fun 𝓤) (κ κ′ : Lft) (q q′ : Share)
     (i o i′ o′ : ℕ) (γ γ′ : GName) (ys : List Marker) (count w h x y a b : ℕ) (others : Bool) (old : List ℕ) where
