@@ -9,7 +9,8 @@ use native.Mathlib.Decide.{decLt}
 use Rattle.field.specs.Map.{On, at, no-distance}
 use Rattle.field.specs.Distances.{Way, Along, Clear, at-closed, nearest, none}
 use Rattle.field.specs.Workings.Sheet.{Marked}
-use Rattle.distances.proofs.Ways.{along-same, along-start}
+use Rattle.distances.specs.Looking.{Edge}
+use Rattle.distances.proofs.Ways.{along-same, along-start, edge-past}
 
 -- Nothing is marked on the first k hops that way.
 pub record Bare (s : List ℕ) (w h : ℕ) (t : Way) (x y k : ℕ) : Type 0 where
@@ -58,3 +59,7 @@ module _ {s : List ℕ} {w h : ℕ} {t : Way} {x y : ℕ} where
           go : Dec (i < k) → ¬ Marked s w h a b
           go (yes q) = f .free i a b q l
           go (no q) = λ m. past i a b (omega arith) l (m .on)
+
+  -- So it is once the hops to the edge are looked at.
+  pub bare-edge : {k n : ℕ} → Bare s w h t x y k → Edge t w h x y n → n < k → Clear (Marked s w h) t x y no-distance
+  bare-edge f e p = bare-past f (λ i a b q l. edge-past t w h i x y a b (omega (arith, e .is)) l)

@@ -1,7 +1,9 @@
 // Clear distances of one crossing, and whether home is assured, over a sheet that marks the closed crossings.
-mod look; // look.rt: the distance of one crossing
+mod look; // look.rt: the distance of one crossing, one way
 
 use field::NO_DISTANCE;
+use look::Way;
+use look::look;
 use sheets::mark;
 ghost use mathlib.Core.Path.{_≡_};
 ghost use mathlib.Core.Bool.{true};
@@ -21,10 +23,10 @@ pub fn distances(s: &[u8], w: usize, h: usize, x: usize, y: usize) -> [u8; 4]
     ensures { λ r. ⌜ Distances (Marked (now (s .entry)) w h) x y r ⌝ }
 {
     [
-        look::east(s, w, h, x, y),
-        look::south(s, w, h, x, y),
-        look::west(s, w, h, x, y),
-        look::north(s, w, h, x, y),
+        look(s, w, h, x, y, Way::East),
+        look(s, w, h, x, y, Way::South),
+        look(s, w, h, x, y, Way::West),
+        look(s, w, h, x, y, Way::North),
     ]
 }
 
