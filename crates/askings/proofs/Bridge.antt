@@ -1,5 +1,6 @@
--- The bridge from a label sheet's marks to the closed crossings. The marks of the sheet are the crossings that the rocks stamped before close, no more
--- and no fewer; so each answer over the marks is that answer over the closed crossings.
+-- The bridge from a label sheet's marks to the closed crossings. The marks of the sheet are the
+-- crossings that the rocks stamped before close, no more and no fewer; so each answer over the
+-- marks is that answer over the closed crossings.
 use mathlib.Core.Path.{_≡_, refl, sym, subst, _∙_}
 use mathlib.Core.Bool.{Bool, true, false, true≢false}
 use mathlib.Core.List.{List, [], _∷_}
@@ -172,7 +173,8 @@ module _ {n w h : ℕ} {s : List ℕ} (f : ¬ (n ≡ 0)) (l : n ≤ no-slot) whe
         route-after = route-kept f;
       })
 
--- What a drive fills is no longer than the route: at a refusal it is nothing, and else row 10 does not apply.
+-- What a drive fills is no longer than the route: at a refusal it is nothing, and else row 10 does
+-- not apply.
 pub drove-within : {n w h sx sy dx dy z z′ : ℕ} {s g s′ g′ route route′ : List ℕ} {r : Drove}
     → DriveRest n w h sx sy dx dy s g route z s′ g′ route′ z′ r → r .length ≤ length route
 drove-within {n} {w} {h} {sx} {sy} {dx} {dy} {s = s} {route = route} {r = r} e = go (ℕ-discrete (r .refusal) 0)

@@ -1,6 +1,8 @@
--- An asking's second part. The first part has judged what comes before anything is written: n is its refusal, 1 to 4, or 0, and then the label sheet s
--- is stamped with the rocks. What stands here takes it from there: the sheet is labelled, and the question is answered over the closed crossings of
--- the rocks stamped. It is said in the words of the calls: by its rows, of which the first is what was found before, and by what is left in lent memory.
+-- An asking's second part. The first part has judged what comes before anything is written: n is
+-- its refusal, 1 to 4, or 0, and then the label sheet s is stamped with the rocks. What stands here
+-- takes it from there: the sheet is labelled, and the question is answered over the closed
+-- crossings of the rocks stamped. It is said in the words of the calls: by its rows, of which the
+-- first is what was found before, and by what is left in lent memory.
 use mathlib.Core.Path.{_≡_}
 use mathlib.Core.Bool.{Bool, true, false}
 use mathlib.Core.List.{List, [], _∷_}
@@ -27,8 +29,8 @@ use Rattle.calls.specs.declared.Drove.{Drove}
 abbrev pub ClosedOn : ℕ → ℕ → List ℕ → ℕ → ℕ → Type 0
 ClosedOn w h s = Closed (Stones w h s) w h
 
--- What the first part has made sure of: its refusal is one that changes no lent byte, and where it gave 0 the sheet is stamped, the places are on the
--- map, and the other sheets have the map's size.
+-- What the first part has made sure of: its refusal is one that changes no lent byte, and where it
+-- gave 0 the sheet is stamped, the places are on the map, and the other sheets have the map's size.
 pub record MayLabel (n w h : ℕ) (s : List ℕ) : Type 0 where
   pub early : n ≤ no-slot
   pub stamped : n ≡ 0 → Stamped w h s
@@ -103,8 +105,9 @@ pub record DriveRest (n w h sx sy dx dy : ℕ) (s g route : List ℕ) (z : ℕ) 
   pub region-after : RegionAfter w h (ClosedOn w h s) sx sy dx dy (r .refusal) g g′
   pub route-after : RouteAfter w h (ClosedOn w h s) sx sy dx dy (r .refusal) (r .length) route z route′ z′
 
--- route: the same drive, of which the leading part of the route is handed back, as many crossings as were filled; number and state go out through
--- lent numbers. route′ is the route as `drive` leaves it, and the part begins where the lent route begins.
+-- route: the same drive, of which the leading part of the route is handed back, as many crossings
+-- as were filled; number and state go out through lent numbers. route′ is the route as `drive`
+-- leaves it, and the part begins where the lent route begins.
 pub record RouteRest (n w h sx sy dx dy : ℕ) (s g route : List ℕ) (z : ℕ) (s′ g′ part : List ℕ) (number z′ : ℕ) (route-begins part-begins : ℕ × ℕ) : Type 0 where
   pub leading : part-begins ≡ route-begins
   pub route′ : List ℕ
@@ -112,7 +115,8 @@ pub record RouteRest (n w h sx sy dx dy : ℕ) (s g route : List ℕ) (z : ℕ) 
   pub drove : DriveRest n w h sx sy dx dy s g route z s′ g′ route′ z′ (record { refusal = number; length = crossings })
   pub part-is : part ≡ take crossings route′
 
--- For the functions within: what the test of two ends tells, C being the closed crossings. Yes: an end is closed. No: none is.
+-- For the functions within: what the test of two ends tells, C being the closed crossings. Yes: an
+-- end is closed. No: none is.
 abbrev pub EndsTold : (ℕ → ℕ → Type 0) → ℕ → ℕ → ℕ → ℕ → Bool → Type 0
 EndsTold C x y a b true = AnEndClosed C x y a b
 EndsTold C x y a b false = ¬ AnEndClosed C x y a b

@@ -1,6 +1,7 @@
-// The second part of each asking, over a lent label sheet on which the rocks are stamped. n is the refusal that was found before, or 0. At a refusal
-// from before nothing lent is touched and the answer is the number with zeros. Else the sheet is labelled first, and then the question is answered over
-// its marks: whatever is not 0 on it is closed.
+// The second part of each asking, over a lent label sheet on which the rocks are stamped. n is the
+// refusal that was found before, or 0. At a refusal from before nothing lent is touched and the
+// answer is the number with zeros. Else the sheet is labelled first, and then the question is
+// answered over its marks: whatever is not 0 on it is closed.
 mod telling; // telling.rt: what the crates below tell, as document 01's number and values
 
 use calls::Assurance;
@@ -112,7 +113,8 @@ pub fn assured(
     }
 }
 
-// The permitted hops from (x, y) towards home (hx, hy). With an end closed: refusal 8; both open and home not assured: 11.
+// The permitted hops from (x, y) towards home (hx, hy). With an end closed: refusal 8; both open
+// and home not assured: 11.
 pub fn hop(
     n: u8,
     w: usize,
@@ -140,8 +142,8 @@ pub fn hop(
     no_hop(NOT_ASSURED)
 }
 
-// The region of shortest drives from (sx, sy) to (dx, dy), into a lent sheet. With an end closed: refusal 8, and the sheet stays; with no shortest
-// drive: 9, all 0.
+// The region of shortest drives from (sx, sy) to (dx, dy), into a lent sheet. With an end closed:
+// refusal 8, and the sheet stays; with no shortest drive: 9, all 0.
 pub fn region(
     n: u8,
     w: usize,
@@ -164,8 +166,9 @@ pub fn region(
     telling::found_number(found)
 }
 
-// The chooser's drive from (sx, sy) to (dx, dy) in the lent state, at the front of a lent route; the lent sheet holds the region. The state is
-// written only where there is a drive and the route holds it.
+// The chooser's drive from (sx, sy) to (dx, dy) in the lent state, at the front of a lent route;
+// the lent sheet holds the region. The state is written only where there is a drive and the route
+// holds it.
 pub fn drive(
     n: u8,
     w: usize,
@@ -191,8 +194,9 @@ pub fn drive(
     telling::drive_told(made, state)
 }
 
-// The same drive, handed back as the leading part of the lent route: s first and d last, and on a refusal empty. The number, 0 on success, goes out
-// through `refusal`. Nothing is written to the route after `drive`, which says what the rest of it holds.
+// The same drive, handed back as the leading part of the lent route: s first and d last, and on a
+// refusal empty. The number, 0 on success, goes out through `refusal`. Nothing is written to the
+// route after `drive`, which says what the rest of it holds.
 pub fn route<'a>(
     n: u8,
     w: usize,

@@ -1,4 +1,5 @@
-// What the crates below tell of a label sheet's marks, as document 01's number and values; and the refusals, a number with zeros.
+// What the crates below tell of a label sheet's marks, as document 01's number and values; and the
+// refusals, a number with zeros.
 use calls::Assurance;
 use calls::Drove;
 use calls::Homeward;
@@ -107,7 +108,8 @@ pub fn found_number(found: Found) -> u8
     }
 }
 
-// What asking for a drive makes: its number and how many crossings are filled. The state is written only where the route is filled.
+// What asking for a drive makes: its number and how many crossings are filled. The state is written
+// only where the route is filled.
 pub fn drive_told(made: Made, state: &mut u32) -> Drove
     ensures { λ r. ⌜ DriveTold made (now (state .entry)) (now (state .exit)) r ⌝ }
 {

@@ -1,4 +1,5 @@
--- How it is shown what a call leaves in lent memory: by the number given, one of the cases is the one to be shown, and the others cannot be.
+-- How it is shown what a call leaves in lent memory: by the number given, one of the cases is the
+-- one to be shown, and the others cannot be.
 use mathlib.Core.Path.{_≡_, refl}
 use mathlib.Core.List.{List}
 use Prim.Native.Nat.{ℕ, _*_, _≤_}

@@ -1,4 +1,5 @@
--- Lists that agree on the slots in use. Whether a list is well formed, which ids are in use and which crossings are rocks hang on these slots alone.
+-- Lists that agree on the slots in use. Whether a list is well formed, which ids are in use and
+-- which crossings are rocks hang on these slots alone.
 use mathlib.Core.Path.{_≡_, sym, ap, subst, _∙_}
 use mathlib.Core.List.{List}
 use mathlib.Core.Logic.{_⊎_, inl, inr}
@@ -23,8 +24,8 @@ use Rattle.calls.specs.Answers.{Early, LabelsAfter, DistancesAfter, Regi
 abbrev pub SameSlots : List Marker → List Marker → ℕ → Type 0
 SameSlots list other count = (k : ℕ) → k < count → slot list k ≡ slot other k
 
--- Two lists agree on the slots in use: the count is at most both lengths, and the slots below it are equal; or it is more than both. Nothing is said
--- of the other slots, nor how many there are.
+-- Two lists agree on the slots in use: the count is at most both lengths, and the slots below it
+-- are equal; or it is more than both. Nothing is said of the other slots, nor how many there are.
 pub data Agree (list other : List Marker) (count : ℕ) : Type 0 where
   within : count ≤ length list → count ≤ length other → SameSlots list other count → Agree list other count
   past : length list < count → length other < count → Agree list other count
@@ -154,7 +155,8 @@ listed-moved a (inl p) f = inl p
 listed-moved a (inr (s, inl p)) f = inr (s, inl (λ t. p .0 (formed-moved (agree-turned a) t), p .1))
 listed-moved a (inr (s, inr p)) f = inr (s, inr (λ t. p .0 (λ u. t (formed-moved a u)), f (formed-holds (p .0) .lent) (p .1)))
 
--- Entering and clearing leave the slots in use equal again: the same id stands or belongs at the same place in both.
+-- Entering and clearing leave the slots in use equal again: the same id stands or belongs at the
+-- same place in both.
 entered-place : {list other list′ other′ : List Marker} {count : ℕ} {m : Marker} → SameSlots list other count → (p : Entered list count m list′)
     (q : Entered other count m other′) → p .place ≤ q .place
 entered-place {count = count} {m = m} s p q = go (decLt (q .place) (p .place))

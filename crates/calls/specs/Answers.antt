@@ -1,5 +1,6 @@
--- What a call answers and what it leaves in lent memory, by the number that it gave. Askings are answered over any rocks R or closed crossings C: what
--- is said here of a lent map's rocks is said in the same words of those that are stamped on a sheet. A primed name is what the call leaves.
+-- What a call answers and what it leaves in lent memory, by the number that it gave. Askings are
+-- answered over any rocks R or closed crossings C: what is said here of a lent map's rocks is said
+-- in the same words of those that are stamped on a sheet. A primed name is what the call leaves.
 use mathlib.Core.Path.{_≡_}
 use mathlib.Core.Bool.{false}
 use mathlib.Core.List.{List, [], _∷_, _++_}
@@ -52,7 +53,8 @@ no-map n = record { refusal = n; width = 0; height = 0; count = 0 }
 abbrev pub no-bytes : ℕ → WroteMap
 no-bytes n = record { refusal = n; bytes = 0 }
 
--- "refusals 1 to 7 ... change no lent byte. At 8, 9, 10 and 11 a lent label sheet holds the labels".
+-- "refusals 1 to 7 ... change no lent byte. At 8, 9, 10 and 11 a lent label sheet holds the
+-- labels".
 abbrev pub Early : ℕ → Type 0
 Early n = (1 ≤ n) × (n ≤ no-slot)
 
@@ -72,8 +74,9 @@ pub record DistancesAfter (w h : ℕ) (C : ℕ → ℕ → Type 0) (way : Way) (
   pub kept : ¬ (n ≡ 0) → sheet′ ≡ sheet
   pub filled : n ≡ 0 → DistanceSheet w h C way sheet′
 
--- "The answer names every permitted hop, the east-west one first. At home there is none, and the answer is "there"." Document 01's values for each
--- answer: how many crossings it names, and the crossings.
+-- "The answer names every permitted hop, the east-west one first. At home there is none, and the
+-- answer is "there"." Document 01's values for each answer: how many crossings it names, and the
+-- crossings.
 abbrev pub homeward : HopAnswer → Homeward
 homeward there = record { refusal = 0; hops = 0; x = 0; y = 0; a = 0; b = 0 }
 homeward (one x y) = record { refusal = 0; hops = 1; x = x; y = y; a = 0; b = 0 }
@@ -84,15 +87,17 @@ pub record HopsNamed (w h : ℕ) (C : ℕ → ℕ → Type 0) (hx hy x y : ℕ) 
   pub answers : Answers w h C hx hy x y answer
   pub is : r ≡ homeward answer
 
--- "the region sheet is unchanged at 8, all 0 at 9, the region at 10", and unchanged at every lower number
+-- "the region sheet is unchanged at 8, all 0 at 9, the region at 10", and unchanged at every lower
+-- number
 pub record RegionAfter (w h : ℕ) (C : ℕ → ℕ → Type 0) (sx sy dx dy n : ℕ) (region region′ : List ℕ) : Type 0 where
   pub kept : (1 ≤ n) × (n ≤ end-closed) → region′ ≡ region
   pub size : n ≡ no-drive → length region′ ≡ h * w
   pub zeros : n ≡ no-drive → (i : ℕ) → getD region′ i 0 ≡ 0
   pub made : ¬ ((1 ≤ n) × (n ≤ no-drive)) → RegionSheet w h C sx sy dx dy region′
 
--- "the route buffer and the state are unchanged" at a refusal, and no crossing is filled; else the route's front, so many crossings, is the chooser's
--- drive from the state lent. "The rest of the buffer is unchanged."
+-- "the route buffer and the state are unchanged" at a refusal, and no crossing is filled; else the
+-- route's front, so many crossings, is the chooser's drive from the state lent. "The rest of the
+-- buffer is unchanged."
 pub record RouteAfter (w h : ℕ) (C : ℕ → ℕ → Type 0) (sx sy dx dy n crossings : ℕ) (route : List ℕ) (state : ℕ) (route′ : List ℕ) (state′ : ℕ) : Type 0 where
   pub none : ¬ (n ≡ 0) → crossings ≡ 0
   pub kept : ¬ (n ≡ 0) → route′ ≡ route
@@ -101,13 +106,13 @@ pub record RouteAfter (w h : ℕ) (C : ℕ → ℕ → Type 0) (sx sy dx dy n cr
   pub driven : n ≡ 0 → Driven w h C sx sy dx dy sx sy state (take crossings route′) state′
   pub rest : n ≡ 0 → drop crossings route′ ≡ drop crossings route
 
--- "reading a file goes 12, 13 in the header, 1, then the raster: at the first fault met 13, 14 or 15, then 7": n is the refusal of reading the file into
--- so many slots.
+-- "reading a file goes 12, 13 in the header, 1, then the raster: at the first fault met 13, 14 or
+-- 15, then 7": n is the refusal of reading the file into so many slots.
 abbrev pub ReadFault : List ℕ → ℕ → ℕ → Type 0
 ReadFault file slots n = FileFault file n ⊎ (NoSlot file slots × (n ≡ no-slot))
 
--- "Reading makes markers with ids 1, 2, 3 and on, in raster order, in the first slots; other slots stay, and width, height and the new count are handed
--- back."
+-- "Reading makes markers with ids 1, 2, 3 and on, in raster order, in the first slots; other slots
+-- stay, and width, height and the new count are handed back."
 pub record MapRead (file : List ℕ) (list list′ : List Marker) (r : ReadMap) : Type 0 where
   pub bits : List ℕ
   pub map : MapFile file (r .width) (r .height) bits

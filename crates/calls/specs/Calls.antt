@@ -1,5 +1,6 @@
--- The promise of each public call: its rules, and what its answer and every lent byte, slot and number hold, on success and at each refusal.
--- `m` is the lent map; a primed name is what the call leaves.
+-- The promise of each public call: its rules, and what its answer and every lent byte, slot and
+-- number hold, on success and at each refusal. `m` is the lent map; a primed name is what the call
+-- leaves.
 use mathlib.Core.Path.{_≡_}
 use mathlib.Core.Bool.{true}
 use mathlib.Core.List.{List, []}
@@ -103,9 +104,11 @@ pub record DriveCall (m : LentMap) (sx sy dx dy : ℕ) (labels region route : Li
   pub region-after : RegionAfter (m .width) (m .height) (ClosedBy m) sx sy dx dy (r .refusal) region region′
   pub route-after : RouteAfter (m .width) (m .height) (ClosedBy m) sx sy dx dy (r .refusal) (r .length) route state route′ state′
 
--- drive, as document 01 names its form: "returns the leading part of the caller's mutable route slice, empty on refusal"; number and state go out through
--- lent numbers. A part that begins where the lent route begins, as long as it is, is the route's leading part. What the rest of the route holds is
--- DriveCall's to say: once a part of a lent slice is handed back, no promise can speak of that slice as the call ends.
+-- drive, as document 01 names its form: "returns the leading part of the caller's mutable route
+-- slice, empty on refusal"; number and state go out through lent numbers. A part that begins where
+-- the lent route begins, as long as it is, is the route's leading part. What the rest of the route
+-- holds is DriveCall's to say: once a part of a lent slice is handed back, no promise can speak of
+-- that slice as the call ends.
 pub record RouteCall (m : LentMap) (sx sy dx dy : ℕ) (labels region route : List ℕ) (state : ℕ) (labels′ region′ part : List ℕ) (number state′ : ℕ)
     (route-begins part-begins : ℕ × ℕ) : Type 0 where
   pub given : Gives (Rules.drive-table m sx sy dx dy labels region route) number

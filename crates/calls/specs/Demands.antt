@@ -1,4 +1,5 @@
--- The demands in the calls' own terms. Each holds of every outcome that the promises allow, and each promise allows one outcome (Outcome).
+-- The demands in the calls' own terms. Each holds of every outcome that the promises allow, and
+-- each promise allows one outcome (Outcome).
 --     list         after any sequence of enter, clear and read calls the list is well formed, and no marker is lost on the way
 --     groups       labelling such a list, every group is a full rectangle, any two groups at least three hops apart
 --     way home     a cart whose home is assured, and that asks for hops and takes any that is named, is there after exactly the distance
@@ -41,7 +42,8 @@ use Rattle.calls.specs.declared.Assurance.{Assurance}
 use Rattle.calls.specs.declared.Homeward.{Homeward}
 use Rattle.calls.specs.declared.Drove.{Drove}
 
--- The list, after any sequence of enter, clear and read calls. A list with nothing in use is a start, whatever its slots hold.
+-- The list, after any sequence of enter, clear and read calls. A list with nothing in use is a
+-- start, whatever its slots hold.
 pub empty-start : (list : List Marker) (w h : ℕ) → Calls (lentMap list 0 w h)
 empty-start list w h = Calls.start (empty-formed w h list 0 refl)
 
@@ -72,7 +74,8 @@ module _ {m : LentMap} (calls : Calls m) where
     pub calls-three-apart : {x y a b n : ℕ} → GroupsApart ShownClosed x y a b n → ¬ Linked ShownClosed x y a b → 3 ≤ n
     calls-three-apart = LabelCalls.label-three-apart asked calls-labelled
 
--- No marker is lost: across a call every other marker stands in the list exactly as often as before. A refused call changes nothing.
+-- No marker is lost: across a call every other marker stands in the list exactly as often as
+-- before. A refused call changes nothing.
 module _ {m next : LentMap} {id x y : ℕ} {list′ : List Marker} {r : Counted} (call : EnterCall m id x y list′ r) (after : GoesOn m list′ r next) where
   pub enter-no-marker-lost : (k : Marker) → ¬ Same (marker id x y) k → AsOften k (markersIn m) (markersIn next)
   enter-no-marker-lost = ListCalls.enter-others call after
@@ -93,18 +96,21 @@ module _ {m next : LentMap} {id : ℕ} {list′ : List Marker} {r : Counted} (ca
   pub clear-refused-nothing : ¬ (r .refusal ≡ 0) → (list′ ≡ m .list) × (next ≡ m)
   clear-refused-nothing n = (call .kept n, after .old n)
 
--- Over a sequence: a marker that stands in the list, on its crossing and under its id, stands there exactly once still, whatever else is entered and
--- cleared, until its id is cleared or a read map replaces the list. So none is dropped, moved or joined.
+-- Over a sequence: a marker that stands in the list, on its crossing and under its id, stands there
+-- exactly once still, whatever else is entered and cleared, until its id is cleared or a read map
+-- replaces the list. So none is dropped, moved or joined.
 pub marker-kept : {m next : LentMap} {k : Marker} → Times k (markersIn m) 1 → Sparing (k .id) m next → Times k (markersIn next) 1
 marker-kept = ListCalls.spared
 
--- The way home. The cart has asked whether home (hx, hy) is assured for (x, y), and the answer was yes.
+-- The way home. The cart has asked whether home (hx, hy) is assured for (x, y), and the answer was
+-- yes.
 module _ {m : LentMap} {hx hy x y : ℕ} {labels labels′ : List ℕ} {r : Assurance} (asked : AssuredCall m hx hy x y labels labels′ r)
     (given : r .refusal ≡ 0) (assured : r .assured ≡ true) where
   known : {n a b : ℕ} → Journey m hx hy x y n a b → Assurances m hx hy a b
   known j = HopCalls.journey-assured (HopCalls.assured-yes asked given assured) j
 
-  -- At each stage: the crossing is open, and hops taken and hops left make the distance. So it is home after exactly the distance, and never before.
+  -- At each stage: the crossing is open, and hops taken and hops left make the distance. So it is
+  -- home after exactly the distance, and never before.
   pub journey-open : {n a b : ℕ} → Journey m hx hy x y n a b → Open (m .width) (m .height) (ClosedBy m) a b
   journey-open j = known j .assured .place
 
@@ -115,8 +121,9 @@ module _ {m : LentMap} {hx hy x y : ℕ} {labels labels′ : List ℕ} {r : Assu
   journey-home {n} {a} {b} j =
       (λ t. omega (arith, journey-count j, dist-none (t .0) (t .1)), λ e. dist-zero a b hx hy (omega (arith, journey-count j)))
 
-  -- The next hop call, with any sheet of the map's size: it is not refused; it says "there" exactly at home; it names exactly the permitted hops; and
-  -- until it says "there" it names one at least, so that the cart can always go on.
+  -- The next hop call, with any sheet of the map's size: it is not refused; it says "there" exactly
+  -- at home; it names exactly the permitted hops; and until it says "there" it names one at least,
+  -- so that the cart can always go on.
   module _ {n a b : ℕ} {sheet sheet′ : List ℕ} {s : Homeward} (way : Journey m hx hy x y n a b) (fits : length sheet ≡ m .height * m .width)
       (next : HopCall m hx hy a b sheet sheet′ s) where
     pub journey-not-refused : s .refusal ≡ 0
@@ -146,7 +153,8 @@ pub route-is-shortest : {m : LentMap} {sx sy dx dy : ℕ} {labels region route l
     → ShortestDrive (m .width) (m .height) (ClosedBy m) sx sy dx dy part
 route-is-shortest = DriveCalls.route-shortest
 
--- Refusal 9, asked between open ends with nothing else amiss: exactly where there is no shortest drive.
+-- Refusal 9, asked between open ends with nothing else amiss: exactly where there is no shortest
+-- drive.
 module _ {m : LentMap} {sx sy dx dy : ℕ} {labels region : List ℕ} (fits : BetweenOpen m sx sy dx dy labels region) where
   pub drive-refused-9 : {route labels′ region′ route′ : List ℕ} {state state′ : ℕ} {r : Drove}
       → DriveCall m sx sy dx dy labels region route state labels′ region′ route′ state′ r

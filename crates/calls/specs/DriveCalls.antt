@@ -1,5 +1,6 @@
--- Region and drive calls between open ends, on a map of document 01's size with fitting sheets and a well-formed list: of their rows only 9 and 10 can
--- apply, and 9 does exactly where there is no shortest drive. A drive that is not refused is one.
+-- Region and drive calls between open ends, on a map of document 01's size with fitting sheets and
+-- a well-formed list: of their rows only 9 and 10 can apply, and 9 does exactly where there is no
+-- shortest drive. A drive that is not refused is one.
 use mathlib.Core.Path.{_≡_}
 use mathlib.Core.List.{List, [], _∷_}
 use mathlib.Core.Logic.{_↔_, _⊎_, inl, inr}
@@ -21,7 +22,8 @@ use Rattle.calls.specs.Calls.{RegionCall, DriveCall, RouteCall}
 use Rattle.calls.specs.Exactly.{region-exactly, drive-exactly, route-exactly}
 use Rattle.calls.specs.declared.Drove.{Drove}
 
--- What is asked: a region or a drive between open ends, with nothing amiss in the map, the sheets and the list.
+-- What is asked: a region or a drive between open ends, with nothing amiss in the map, the sheets
+-- and the list.
 pub record BetweenOpen (m : LentMap) (sx sy dx dy : ℕ) (labels region : List ℕ) : Type 0 where
   pub sides : Sized m
   pub labels-fit : length labels ≡ m .height * m .width

@@ -1,5 +1,6 @@
--- Document 01's table, call by call: "Exactly when". Each number that a call can give is given exactly where its row applies and no row with a lower
--- number does; 0 exactly where none applies. Reading a file goes in its own order.
+-- Document 01's table, call by call: "Exactly when". Each number that a call can give is given
+-- exactly where its row applies and no row with a lower number does; 0 exactly where none applies.
+-- Reading a file goes in its own order.
 use mathlib.Core.Path.{_≡_, sym, subst, _∙_}
 use mathlib.Core.List.{List}
 use mathlib.Core.Logic.{_↔_, _⊎_, inl, inr}
@@ -87,8 +88,9 @@ module _ {m : LentMap} where
   pub write-exactly : {out out′ : List ℕ} {r : WroteMap} → WriteCall m out out′ r → Exactly (Rules.write-table m out) (r .refusal)
   write-exactly {out} c = exactly (Rules.write-table m out) _ (omega arith) (c .given)
 
--- Reading: "12, 13 in the header, 1, then the raster: at the first fault met 13, 14 or 15, then 7". A fault's number is given exactly for a file with
--- that fault, 7 exactly for a map whose rocks find no slots, and 0 exactly for a map whose rocks do.
+-- Reading: "12, 13 in the header, 1, then the raster: at the first fault met 13, 14 or 15, then 7".
+-- A fault's number is given exactly for a file with that fault, 7 exactly for a map whose rocks
+-- find no slots, and 0 exactly for a map whose rocks do.
 pub record ReadExactly (file : List ℕ) (lent n : ℕ) : Type 0 where
   pub fault : (k : ℕ) → FileFault file k ↔ ((n ≡ k) × (¬ (k ≡ 0)) × (¬ (k ≡ no-slot)))
   pub full : NoSlot file lent ↔ (n ≡ no-slot)

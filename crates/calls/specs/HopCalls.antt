@@ -1,5 +1,6 @@
--- The hop call on a cart's way: at an assured place it is not refused, the crossings that it names are the permitted hops, and it says "there" exactly
--- at home. So a journey is a sequence of permitted hops from an assured place.
+-- The hop call on a cart's way: at an assured place it is not refused, the crossings that it names
+-- are the permitted hops, and it says "there" exactly at home. So a journey is a sequence of
+-- permitted hops from an assured place.
 use mathlib.Core.Path.{_≡_, refl, sym, ap, subst₂, _∙_}
 use mathlib.Core.Bool.{true}
 use mathlib.Core.List.{List, [], _∷_}
@@ -53,7 +54,8 @@ module _ {m : LentMap} {hx hy x y : ℕ} {labels labels′ : List ℕ} {r : Home
   hop-not-refused k e = gives-one (Rules.hop-table m hx hy x y labels) _ _ (c .given) (hop-passes labels k e)
 
 module _ {w h : ℕ} {C : ℕ → ℕ → Type 0} {hx hy x y : ℕ} where
-  -- A permitted hop that keeps the row is the hop along the row, and one that keeps the column is the hop along the column.
+  -- A permitted hop that keeps the row is the hop along the row, and one that keeps the column is
+  -- the hop along the column.
   by-row : {a b : ℕ} → Permitted w h C hx hy x y a b → b ≡ y → ByRow hx x y a b
   by-row {a} {b} p e = go (permitted-which p)
     where
@@ -68,7 +70,8 @@ module _ {w h : ℕ} {C : ℕ → ℕ → Type 0} {hx hy x y : ℕ} where
       go (inl q) = absurd (permitted-other p (e, q .1))
       go (inr q) = q
 
--- The answer by its fields: "there", one permitted hop and no other, or two, the east-west one first.
+-- The answer by its fields: "there", one permitted hop and no other, or two, the east-west one
+-- first.
 data Reply (w h : ℕ) (C : ℕ → ℕ → Type 0) (hx hy x y : ℕ) (r : Homeward) : Type 0 where
   says-there : There hx hy x y → r .hops ≡ 0 → Reply w h C hx hy x y r
   names-one : Permitted w h C hx hy x y (r .x) (r .y) → ((c d : ℕ) → Permitted w h C hx hy x y c d → (c ≡ r .x) × (d ≡ r .y)) → r .hops ≡ 1
@@ -125,7 +128,8 @@ module _ {m : LentMap} {hx hy x y : ℕ} {labels labels′ : List ℕ} {r : Home
   reply : Reply (m .width) (m .height) (ClosedBy m) hx hy x y r
   reply = let d = c .done z in reply-of (d .answers) (d .is)
 
-  -- The crossings that the answer names are exactly the permitted hops; it is "there" exactly at home, and else it names one at least.
+  -- The crossings that the answer names are exactly the permitted hops; it is "there" exactly at
+  -- home, and else it names one at least.
   pub hop-names : (a b : ℕ) → Names r a b ↔ Permitted (m .width) (m .height) (ClosedBy m) hx hy x y a b
   hop-names a b = (named a b reply, name a b reply)
 

@@ -1,5 +1,6 @@
--- The label call: on a map of document 01's size, with a fitting sheet and a well-formed list, it is not refused. What its sheet shows closed is stable,
--- so that the geometry holds of the sheet itself.
+-- The label call: on a map of document 01's size, with a fitting sheet and a well-formed list, it
+-- is not refused. What its sheet shows closed is stable, so that the geometry holds of the sheet
+-- itself.
 use mathlib.Core.Path.{_≡_, refl}
 use mathlib.Core.List.{List, []}
 use Prim.Native.Nat.{ℕ, _*_, _≤_}
@@ -41,7 +42,8 @@ module _ {m : LentMap} {labels labels′ : List ℕ} {r : Labelling} (c : LabelC
     pub label-rectangles : (x y : ℕ) → Marked labels′ (m .width) (m .height) x y → Rectangle (Marked labels′ (m .width) (m .height)) x y
     label-rectangles = Rectangles.group-rectangle (m .width) (m .height) (Marked labels′ (m .width) (m .height)) marked-on marked-stable (marked-dec labels′ (m .width) (m .height))
 
-    -- Two closed crossings of different groups are at least three hops apart, and so is the distance of the groups.
+    -- Two closed crossings of different groups are at least three hops apart, and so is the
+    -- distance of the groups.
     pub label-closed-apart : (x y a b : ℕ) → Marked labels′ (m .width) (m .height) x y → Marked labels′ (m .width) (m .height) a b → ¬ Linked (Marked labels′ (m .width) (m .height)) x y a b → 3 ≤ dist x y a b
     label-closed-apart = Apart.three-apart (m .width) (m .height) (Marked labels′ (m .width) (m .height)) marked-on marked-stable
 

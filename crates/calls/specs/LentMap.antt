@@ -1,4 +1,5 @@
--- What is lent with every call over a list: "a list of marker records with a count of those in use", and the map's width and height.
+-- What is lent with every call over a list: "a list of marker records with a count of those in
+-- use", and the map's width and height.
 use mathlib.Core.List.{List}
 use Prim.Native.Nat.{ℕ}
 use Rattle.field.specs.declared.Marker.{Marker}

@@ -1,4 +1,5 @@
--- The public calls: their refusals, what they answer and leave, one promise a call, and what is proved of the promises.
+-- The public calls: their refusals, what they answer and leave, one promise a call, and what is
+-- proved of the promises.
 pub mod LentMap
 pub mod Rule
 pub mod Rules

@@ -1,5 +1,6 @@
--- Entering, clearing and reading as calls: what success shows of the list and the marker, what stays, and that every sequence of calls comes to a list
--- that sequences of entering and clearing reach. A refused call changes nothing.
+-- Entering, clearing and reading as calls: what success shows of the list and the marker, what
+-- stays, and that every sequence of calls comes to a list that sequences of entering and clearing
+-- reach. A refused call changes nothing.
 use mathlib.Core.Path.{_≡_, sym, ap, subst, _∙_}
 use mathlib.Core.List.{List}
 use mathlib.Core.Logic.{_↔_, inl, inr}
@@ -87,7 +88,8 @@ module _ {m : LentMap} {id : ℕ} {list′ : List Marker} {r : Counted} (c : Cle
 abbrev pub MapReached : LentMap → Type 0
 MapReached m = Reached (m .width) (m .height) (m .list) (m .count)
 
--- An enter or clear call that succeeds is one step, a read map is a new start, and a call that is refused is nothing.
+-- An enter or clear call that succeeds is one step, a read map is a new start, and a call that is
+-- refused is nothing.
 pub calls-reached : {m : LentMap} → Calls m → MapReached m
 calls-reached (start f) = Reached.start f
 calls-reached (enter {m} {next} {after} id x y r s c o) = go (calls-reached s) (ℕ-discrete (r .refusal) 0)
@@ -156,8 +158,8 @@ module _ {m next : LentMap} {id : ℕ} {list′ : List Marker} {r : Counted} (c 
       let f = clear-formed c z in
       subst (λ (n : LentMap). Times k (markersIn n) 0) (sym (o .new z)) (cleared-gone (r .count) (f .lent) (u .list) (u .counted) (f .rising) k e)
 
--- A marker that stands in the list stands there once still, after any sequence of calls that spares its id. Entering its id again is refused, since
--- the id is in use.
+-- A marker that stands in the list stands there once still, after any sequence of calls that spares
+-- its id. Entering its id again is refused, since the id is in use.
 pub spared : {m next : LentMap} {k : Marker} → Times k (markersIn m) 1 → Sparing (k .id) m next → Times k (markersIn next) 1
 spared p (sequences.Sparing.start e) = rw e p
 spared {k = k} p (sequences.Sparing.enter {mid} {next} new x y r s c o) = go (ℕ-discrete (r .refusal) 0) (spared p s)

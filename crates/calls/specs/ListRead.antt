@@ -1,4 +1,5 @@
--- What stands in the list after a map is read: a well-formed list, whose rocks are exactly the file's.
+-- What stands in the list after a map is read: a well-formed list, whose rocks are exactly the
+-- file's.
 use mathlib.Core.Path.{_≡_, sym, ap, _∙_}
 use mathlib.Core.List.{List}
 use mathlib.Core.Logic.{_↔_, inl, inr}

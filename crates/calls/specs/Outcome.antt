@@ -1,5 +1,6 @@
--- One outcome: for every input, refusals too, two outcomes that a call's promise allows are equal, the answer and every lent byte, slot and number.
--- The table gives one number; at 0 each meaning has one value, and at a refusal everything is said outright.
+-- One outcome: for every input, refusals too, two outcomes that a call's promise allows are equal,
+-- the answer and every lent byte, slot and number. The table gives one number; at 0 each meaning
+-- has one value, and at a refusal everything is said outright.
 use mathlib.Core.Path.{_≡_, sym, ap, ap₂, _∙_}
 use mathlib.Core.List.{List, _++_}
 use mathlib.Core.Logic.{inl, inr}

@@ -1,5 +1,6 @@
--- What makes an outcome one. Answers are equal by their fields; what an asking leaves in a lent sheet is one, since the number that it gave says
--- whether the sheet is kept, emptied or filled, and the list says with what.
+-- What makes an outcome one. Answers are equal by their fields; what an asking leaves in a lent
+-- sheet is one, since the number that it gave says whether the sheet is kept, emptied or filled,
+-- and the list says with what.
 use mathlib.Core.Path.{_≡_, sym, ap, _∙_}
 use mathlib.Core.Bool.{Bool, true, false}
 use mathlib.Core.List.{List, _++_}
@@ -68,7 +69,8 @@ region-after-one {w} {h} {C} {sx} {sy} {dx} {dy} {n} {m} {region} {a} {b} e p q 
         ext-getD 0 a b (p .size d ∙ sym (q .size f)) (λ i l. p .zeros d i ∙ sym (q .zeros f i))
     go (no t) (no d) = region-sheet-one w h C sx sy dx dy (p .made (λ k. t (omega arith))) (q .made (λ k. t (omega arith)))
 
--- What is left of a route: so many crossings, one state after them, and one route, which is its filled part and the rest.
+-- What is left of a route: so many crossings, one state after them, and one route, which is its
+-- filled part and the rest.
 pub route-after-one : {w h : ℕ} {C : ℕ → ℕ → Type 0} {sx sy dx dy n m i j state z z′ : ℕ} {route a b : List ℕ} → n ≡ m
     → RouteAfter w h C sx sy dx dy n i route state a z → RouteAfter w h C sx sy dx dy m j route state b z′
     → (i ≡ j) × (a ≡ b) × (z ≡ z′)

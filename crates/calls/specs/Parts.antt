@@ -1,5 +1,5 @@
--- A call in two parts. The first part finds what is refused before anything is written; its number is the first row of the second part, which goes on
--- where it is 0.
+-- A call in two parts. The first part finds what is refused before anything is written; its number
+-- is the first row of the second part, which goes on where it is 0.
 use mathlib.Core.Path.{_≡_}
 use Prim.Native.Nat.{ℕ}
 use Rattle.calls.specs.Rule.{Rule, rule}

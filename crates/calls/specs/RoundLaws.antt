@@ -1,5 +1,6 @@
--- Why a written map is read back. What is written is one map by the grammar, so that no reading finds a fault in it. Neither in the list written nor
--- among the file's markers do two share a crossing: so there are as many markers as before, and they find a slot each.
+-- Why a written map is read back. What is written is one map by the grammar, so that no reading
+-- finds a fault in it. Neither in the list written nor among the file's markers do two share a
+-- crossing: so there are as many markers as before, and they find a slot each.
 use mathlib.Core.Path.{_≡_, sym, ap, subst, _∙_}
 use mathlib.Core.List.{List}
 use mathlib.Core.Logic.{_↔_, _⊎_, inl, inr}
@@ -73,7 +74,8 @@ module _ {file : List ℕ} {list list′ : List Marker} {r : ReadMap} (c : ReadC
         y = sym (ap (λ (m : Marker). m .y) a) ∙ t .y ∙ ap (λ (m : Marker). m .y) b;
       })
 
--- A writing that is not refused: the list is well formed, no two of its markers share a crossing, and the bytes written are the file.
+-- A writing that is not refused: the list is well formed, no two of its markers share a crossing,
+-- and the bytes written are the file.
 module _ {m : LentMap} {out out′ : List ℕ} {wrote : WroteMap} (c : WriteCall m out out′ wrote) (z : wrote .refusal ≡ 0) where
   none : None (Rules.write-table m out)
   none = gives-none (Rules.write-table m out) 0 (wrote .refusal) (omega arith) (c .given) z
@@ -103,7 +105,8 @@ module _ {m : LentMap} {out out′ : List ℕ} {wrote : WroteMap} (c : WriteCall
       at-stand : Stands (m .list) (m .count) x y → OnIt m x y
       at-stand s = rw (← s .x-is, ← s .y-is) (formed .on (s .place) (s .below))
 
-  -- Whatever map the bytes are by the grammar, its markers stand on the list's rocks, and are as many as the list's.
+  -- Whatever map the bytes are by the grammar, its markers stand on the list's rocks, and are as
+  -- many as the list's.
   module _ {width height : ℕ} {bits : List ℕ} (f : MapFile bytes width height bits) where
     pub back : ReadBack (m .width) (m .height) (RocksOf m) width height bits
     back = read-written (m .width) (m .height) (RocksOf m) rocks-tell bytes sides written width height bits f

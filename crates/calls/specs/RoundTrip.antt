@@ -1,5 +1,5 @@
--- Map files there and back. What is written is read as the same map; and a list that is read is well formed, so that every asking, entering, clearing
--- and writing can follow.
+-- Map files there and back. What is written is read as the same map; and a list that is read is
+-- well formed, so that every asking, entering, clearing and writing can follow.
 use mathlib.Core.Path.{_≡_, _∙_}
 use mathlib.Core.List.{List}
 use mathlib.Core.Logic.{_↔_}
@@ -13,16 +13,18 @@ use Rattle.calls.specs.RoundLaws
 use Rattle.calls.specs.declared.ReadMap.{ReadMap}
 use Rattle.calls.specs.declared.WroteMap.{WroteMap}
 
--- Two maps are the same: width and height are equal, there are as many rocks, on the same crossings.
+-- Two maps are the same: width and height are equal, there are as many rocks, on the same
+-- crossings.
 pub record SameMap (m read : LentMap) : Type 0 where
   pub width : read .width ≡ m .width
   pub height : read .height ≡ m .height
   pub count : read .count ≡ m .count
   pub crossings : (x y : ℕ) → RocksOf read x y ↔ RocksOf m x y
 
--- "Reading a written map into a list with a slot for each rock gives the same crossings." The bytes written are the first of the output, as many as
--- were handed back; the list that is lent to reading may hold anything. Two markers on one crossing are refused in writing (16): so each marker is a
--- rock of its own, and the count stays.
+-- "Reading a written map into a list with a slot for each rock gives the same crossings." The bytes
+-- written are the first of the output, as many as were handed back; the list that is lent to
+-- reading may hold anything. Two markers on one crossing are refused in writing (16): so each
+-- marker is a rock of its own, and the count stays.
 module _ {m : LentMap} {list list′ : List Marker} {out out′ : List ℕ} {wrote : WroteMap} {r : ReadMap} (c : WriteCall m out out′ wrote)
     (z : wrote .refusal ≡ 0) (d : ReadCall (take (wrote .bytes) out′) list list′ r) (room : m .count ≤ length list) where
   pub read-write-taken : r .refusal ≡ 0
@@ -39,8 +41,8 @@ module _ {m : LentMap} {list list′ : List Marker} {out out′ : List ℕ} {wro
         crossings = RoundLaws.back-crossings c z d read-write-taken;
       }
 
--- What any reading leaves that is not refused: a map of document 01's size, a well-formed list, and no two markers on one crossing. So 1 and 3 are
--- never given for it, nor 16 when it is written.
+-- What any reading leaves that is not refused: a map of document 01's size, a well-formed list, and
+-- no two markers on one crossing. So 1 and 3 are never given for it, nor 16 when it is written.
 module _ {file : List ℕ} {list list′ : List Marker} {r : ReadMap} (c : ReadCall file list list′ r) (z : r .refusal ≡ 0) where
   pub read-sides : Sized (read-map list′ r)
   read-sides = RoundLaws.read-sides c z

@@ -1,5 +1,6 @@
--- The drive whose part is handed back, beside the one that answers a length: from the same input the part is the front of the route that the other
--- leaves, and begins where it begins, with the same number, state and sheets.
+-- The drive whose part is handed back, beside the one that answers a length: from the same input
+-- the part is the front of the route that the other leaves, and begins where it begins, with the
+-- same number, state and sheets.
 use mathlib.Core.Path.{_≡_, refl, ap}
 use mathlib.Core.List.{List}
 use Prim.Native.Nat.{ℕ}

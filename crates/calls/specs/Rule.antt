@@ -12,7 +12,8 @@ pub record Rule : Type 1 where
 abbrev pub rule : ℕ → Type 0 → Rule
 rule n A = record { number = n; applies = A }
 
--- n is given: the number of the first rule that applies, or 0 where none does. A call's rules stand in the order of their numbers.
+-- n is given: the number of the first rule that applies, or 0 where none does. A call's rules stand
+-- in the order of their numbers.
 abbrev pub Gives : List Rule → ℕ → Type 0
 Gives [] n = n ≡ 0
 Gives (r ∷ rs) n = ((r .applies) × (n ≡ r .number)) ⊎ ((¬ (r .applies)) × Gives rs n)

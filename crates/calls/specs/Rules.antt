@@ -1,5 +1,6 @@
--- Refusals: the rows of document 01's table, and for each call the rows that it can meet. "The lowest number that applies is given."
--- `m` is the lent map. Rows 8 to 11 are said of the closed crossings C, whatever tells them.
+-- Refusals: the rows of document 01's table, and for each call the rows that it can meet. "The
+-- lowest number that applies is given." `m` is the lent map. Rows 8 to 11 are said of the closed
+-- crossings C, whatever tells them.
 use mathlib.Core.Path.{_≡_}
 use mathlib.Core.List.{List, [], _∷_}
 use mathlib.Core.Logic.{_⊎_}
@@ -110,7 +111,8 @@ clear-table m id = size-rule m ∷ list-rule m ∷ not-in-use-rule m id ∷ []
 abbrev pub write-table : LentMap → List ℕ → List Rule
 write-table m out = size-rule m ∷ list-rule m ∷ shared-rule m ∷ output-rule (m .width) (m .height) (RocksOf m) out ∷ []
 
--- Every asking is lent a label sheet, and some are lent more sheets. Its own rows come after the first three.
+-- Every asking is lent a label sheet, and some are lent more sheets. Its own rows come after the
+-- first three.
 abbrev pub asking-table : LentMap → List (List ℕ) → List Rule → List Rule
 asking-table m sheets own = size-rule m ∷ sheet-rule m sheets ∷ list-rule m ∷ own
 

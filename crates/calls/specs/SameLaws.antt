@@ -1,5 +1,5 @@
--- What is answered and left over C is answered and left over D, where they have the same crossings; and so over rocks. It is asked only where the
--- number given lets anything hang on them.
+-- What is answered and left over C is answered and left over D, where they have the same crossings;
+-- and so over rocks. It is asked only where the number given lets anything hang on them.
 use mathlib.Core.Path.{_≡_, refl}
 use mathlib.Core.List.{List}
 use mathlib.Core.Logic.{_↔_, inl, inr}

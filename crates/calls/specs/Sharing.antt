@@ -1,5 +1,6 @@
--- Two markers on one crossing, told by counting marks. Stamped one after the other, a marker on a crossing that bears no mark yet makes one mark more,
--- and a marker on a marked crossing makes none. So there are as many marks as markers exactly where no two share a crossing.
+-- Two markers on one crossing, told by counting marks. Stamped one after the other, a marker on a
+-- crossing that bears no mark yet makes one mark more, and a marker on a marked crossing makes
+-- none. So there are as many marks as markers exactly where no two share a crossing.
 use mathlib.Core.Path.{_≡_, refl, sym, ap, subst, _∙_}
 use mathlib.Core.List.{List, [], _∷_}
 use mathlib.Core.Logic.{_↔_, _⊎_, inl, inr}
@@ -81,14 +82,16 @@ module _ (w h : ℕ) (list : List Marker) where
   stands-drawn k x y on o m =
       let p = drawn-is k on .sound x y o m in record { place = p .place; below = p .below; x-is = p .x-is; y-is = p .y-is }
 
-  -- No two of the first k markers stand on one crossing, and there are k marks; or two do, and there are fewer.
+  -- No two of the first k markers stand on one crossing, and there are k marks; or two do, and
+  -- there are fewer.
   abbrev pub Distinct : ℕ → Type 0
   Distinct k = (i j : ℕ) → i < j → j < k → slot list i .x ≡ slot list j .x → slot list i .y ≡ slot list j .y → ⊥
 
   abbrev pub Told : ℕ → ℕ → Type 0
   Told k n = ((n ≡ k) × Distinct k) ⊎ ((n < k) × Shared list k)
 
-  -- The next marker's crossing is marked already: it shares it with the marker that is stamped there.
+  -- The next marker's crossing is marked already: it shares it with the marker that is stamped
+  -- there.
   told-again : (k : ℕ) → OnMap (suc k) → 0 < at (drawn k) w (slot list k .x) (slot list k .y) → marks (drawn k) ≤ k → Told (suc k) (marks (drawn (suc k)))
   unfolding drawn x-of y-of
   told-again k on m n =
@@ -162,8 +165,8 @@ module _ (w h : ℕ) (list : List Marker) where
       go (yes l) = d (t .j) (t .k) l (t .k-below) (t .x) (t .y)
       go (no l) = d (t .k) (t .j) (omega (arith, t .two)) (t .j-below) (sym (t .x)) (sym (t .y))
 
--- Lists whose markers stand on the same crossings of the map, each list with no two markers on one of them, have as many markers: each has as many as
--- there are marks, and the marks are the same.
+-- Lists whose markers stand on the same crossings of the map, each list with no two markers on one
+-- of them, have as many markers: each has as many as there are marks, and the marks are the same.
 module _ {w h : ℕ} where
   drawn-among : (list other : List Marker) (count more : ℕ) → OnMap w h list count → OnMap w h other more
       → ((x y : ℕ) → Stands list count x y → Stands other more x y) → Among (drawn w h list count) (drawn w h other more)

@@ -1,5 +1,6 @@
--- "Slots past the count are never read": two lists that agree on the slots in use get the same answers and leave the same bytes. What a call says of a
--- list it says of the markers in use, and of whether the count passes the list lent.
+-- "Slots past the count are never read": two lists that agree on the slots in use get the same
+-- answers and leave the same bytes. What a call says of a list it says of the markers in use, and
+-- of whether the count passes the list lent.
 use mathlib.Core.Path.{_≡_, sym, ap, _∙_}
 use mathlib.Core.List.{List, [], _∷_, _++_}
 use mathlib.Core.Logic.{_⊎_, inl, inr}
@@ -156,8 +157,9 @@ module _ {m : LentMap} {other : List Marker} (a : Agree (m .list) other (m .coun
       own l (inl p) = inl (shared-moved (agree-slots a l) (p .0), p .1)
       own l (inr p) = inr (λ t. p .0 (shared-moved (λ k b. sym (agree-slots a l k b)) t), rw (agree-in-use a l) at (p .1))
 
--- Entering and clearing: on two lists of one length that agree, the same answer, and after the call they agree again. What they leave in the slots
--- past the count is said by enter-rest and clear-rest: every one, but that which entering takes, is as it was.
+-- Entering and clearing: on two lists of one length that agree, the same answer, and after the call
+-- they agree again. What they leave in the slots past the count is said by enter-rest and
+-- clear-rest: every one, but that which entering takes, is as it was.
 module _ {m next : LentMap} {other list′ other′ : List Marker} {r s : Counted} (long : length (m .list) ≡ length other) (a : Agree (m .list) other (m .count))
     (o : GoesOn m list′ r next) where
   pub enter-unread : {id x y : ℕ} → EnterCall m id x y list′ r → EnterCall (with-list m other) id x y other′ s → (r ≡ s) × Agree list′ other′ (next .count)
@@ -212,7 +214,8 @@ module _ {m next : LentMap} {other list′ other′ : List Marker} {r s : Counte
           let z′ : ¬ (s .refusal ≡ 0) = λ k. z (e ∙ k) in
           (refused-one no-count e (p .refused z) (q .refused z′), rw (p .kept z, q .kept z′, o .old z) a)
 
--- Reading a map file reads no slot at all: any list of the same length gets the same answer and the same markers, and keeps its own other slots.
+-- Reading a map file reads no slot at all: any list of the same length gets the same answer and the
+-- same markers, and keeps its own other slots.
 pub read-unread : {file : List ℕ} {list other list′ : List Marker} {r : ReadMap} → length list ≡ length other → ReadCall file list list′ r
     → ReadCall file other (take (r .count) list′ ++ drop (r .count) other) r
 read-unread {file} {list} {other} {list′} {r} long c =

@@ -1,5 +1,6 @@
-// The answers of the public calls, by value. Their promises stand in this crate's specs, with all that is proved of them; the crates that compute the
-// answers rest on it. A refusal is its number, with zeros beside it.
+// The answers of the public calls, by value. Their promises stand in this crate's specs, with all
+// that is proved of them; the crates that compute the answers rest on it. A refusal is its number,
+// with zeros beside it.
 
 // The new count of a list, or the refusal.
 #[repr(C)]
@@ -31,7 +32,8 @@ pub struct Assurance {
     pub assured: bool,
 }
 
-// How many hops homeward are permitted, none at home, and where they lead, the east-west one first; or the refusal.
+// How many hops homeward are permitted, none at home, and where they lead, the east-west one first;
+// or the refusal.
 #[repr(C)]
 pub struct Homeward {
     pub refusal: u8,

@@ -1,4 +1,5 @@
--- What reading a map file leaves in the bits is what turning asks for, and the text of those bits is the text of the file.
+-- What reading a map file leaves in the bits is what turning asks for, and the text of those bits
+-- is the text of the file.
 use mathlib.Core.Path.{_≡_}
 use mathlib.Core.List.{List}
 use mathlib.Core.Logic.{_⊎_, inl, inr}
@@ -23,7 +24,8 @@ use Rattle.turning.specs.Turning.{MayTurn}
 map-crossings : {file bits : List ℕ} {w h : ℕ} → MapFile file w h bits → length bits ≡ h * w
 map-crossings {file} {bits} {w} {h} m = raster-crossings (m .format) w h (m .body) bits (m .raster)
 
--- Each answer of the reader with its own promise: with as many slots as markers may be in use, a refusal is the file's.
+-- Each answer of the reader with its own promise: with as many slots as markers may be in use, a
+-- refusal is the file's.
 pub reads-map : {file out : List ℕ} {lent w h count : ℕ} {r : Reading} → Reads file lent out r → r ≡ Map w h count → Taken file lent w h count out
 reads-map p e = rw e at p
 

@@ -1,4 +1,5 @@
--- A sheet stamped and labelled gives the text of the map, and the text depends on which crossings are rocks and not on how that is said.
+-- A sheet stamped and labelled gives the text of the map, and the text depends on which crossings
+-- are rocks and not on how that is said.
 use mathlib.Core.Path.{_≡_, refl}
 use mathlib.Core.List.{List, _++_}
 use Prim.Native.Nat.{ℕ, _*_}

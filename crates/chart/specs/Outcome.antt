@@ -1,4 +1,5 @@
--- The program has one text for a file: a number is printed in one way, a line is made of its numbers, and a picture's signs are those of the labels.
+-- The program has one text for a file: a number is printed in one way, a line is made of its
+-- numbers, and a picture's signs are those of the labels.
 use mathlib.Core.Path.{_≡_, sym, ap, ap₂, _∙_}
 use mathlib.Core.List.{List, [], _++_}
 use mathlib.Core.Logic.{_⊎_, inl, inr}

@@ -1,6 +1,7 @@
--- What the labelling program prints. "First line: width, height, rock crossings, shut crossings, groups. Then rows from the north: . open, # rock, o
--- shut. A refusal prints one line, 'refused', a space and the number. A program takes at most 65,536 input bytes; of a longer input it prints only
--- 'refused long'."
+-- What the labelling program prints. "First line: width, height, rock crossings, shut crossings,
+-- groups. Then rows from the north: . open, # rock, o shut. A refusal prints one line, 'refused', a
+-- space and the number. A program takes at most 65,536 input bytes; of a longer input it prints
+-- only 'refused long'."
 use mathlib.Core.Path.{_≡_}
 use mathlib.Core.List.{List, [], _∷_, _++_}
 use Prim.Native.Nat.{ℕ, _+_, _*_, _-_, _<_, _≤_}
@@ -21,7 +22,8 @@ most-bytes = 65536
 abbrev pub most-printed : ℕ
 most-printed = 20
 
--- Room for a number and one byte after it, for the five numbers of the first line, and for the longest text: that line and the rows of the largest map.
+-- Room for a number and one byte after it, for the five numbers of the first line, and for the
+-- longest text: that line and the rows of the largest map.
 abbrev pub number-room : ℕ
 number-room = most-printed + 1
 
@@ -62,7 +64,8 @@ refused = 114 ∷ 101 ∷ 102 ∷ 117 ∷ 115 ∷ 101 ∷ 100 ∷ 32 ∷ []
 abbrev pub long : List ℕ
 long = 108 ∷ 111 ∷ 110 ∷ 103 ∷ 10 ∷ []
 
--- The refusal of a file: its fault, or 7 where its rocks are more than the markers that may be in use.
+-- The refusal of a file: its fault, or 7 where its rocks are more than the markers that may be in
+-- use.
 pub data Refusal (file : List ℕ) (n : ℕ) : Type 0 where
   fault : FileFault file n → Refusal file n
   too-many : NoSlot file most-markers → n ≡ no-slot → Refusal file n

@@ -1,4 +1,5 @@
--- What the program prints for some files, as a table of rows, byte by byte. That every row holds is proved in Settled.
+-- What the program prints for some files, as a table of rows, byte by byte. That every row holds is
+-- proved in Settled.
 use mathlib.Core.List.{List, [], _∷_, _++_}
 use Prim.Native.Nat.{ℕ}
 use lib.ListN.{replicate}
@@ -34,7 +35,8 @@ example-text =
     ++ (46 ∷ 35 ∷ 111 ∷ 46 ∷ 10 ∷ [])
     ++ (46 ∷ 46 ∷ 46 ∷ 46 ∷ 10 ∷ [])
 
--- The map 1 by 1 with a rock: P1, LF, '1 1', LF, '1'. Its text is '1 1 1 0 1' and '#', each with LF after it: 0 has one digit.
+-- The map 1 by 1 with a rock: P1, LF, '1 1', LF, '1'. Its text is '1 1 1 0 1' and '#', each with LF
+-- after it: 0 has one digit.
 abbrev pub rock-file : List ℕ
 rock-file = 80 ∷ 49 ∷ 10 ∷ 49 ∷ 32 ∷ 49 ∷ 10 ∷ 49 ∷ []
 

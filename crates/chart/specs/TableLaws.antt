@@ -1,5 +1,5 @@
--- What a row of the program's table comes to. The text of a map with few crossings is computed from its bits, by the workings of `field`; a file in P1
--- whose sides have one digit each is a map.
+-- What a row of the program's table comes to. The text of a map with few crossings is computed from
+-- its bits, by the workings of `field`; a file in P1 whose sides have one digit each is a map.
 use mathlib.Core.Path.{_≡_, refl}
 use mathlib.Core.List.{List, [], _∷_, _++_}
 use Prim.Native.Nat.{ℕ, zero, suc, _+_, _*_, _<_, _≤_}
@@ -96,7 +96,8 @@ module _ (w h : ℕ) (bits : List ℕ) where
   unfoldable pub groupCount : ℕ
   groupCount = groupsOf (closing w h stones) w h
 
-  -- The text, where each of the five numbers has one digit. To unfold it is to unfold every working that it is computed with.
+  -- The text, where each of the five numbers has one digit. To unfold it is to unfold every working
+  -- that it is computed with.
   unfoldable pub textOf : List ℕ
   unfolding sumTo lit westOf southOf around row rowsFrom sheet closing until sweep next marks stamp rockOf stands labelling labelsFrom alone tally cornerOf groupsOf markersFrom markersOf pieces signOf signAt rowOf pictureOf stones labelsOf rockCount shutCount groupCount
   textOf =

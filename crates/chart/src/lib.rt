@@ -1,5 +1,5 @@
-// The labelling program's text: from the bytes of a map file to an output slice. Each piece of the text is written into its own part of the output,
-// and hands back where the next begins.
+// The labelling program's text: from the bytes of a map file to an output slice. Each piece of the
+// text is written into its own part of the output, and hands back where the next begins.
 use field::MOST_CROSSINGS;
 use field::MOST_MARKERS;
 use field::SIDE;
@@ -14,7 +14,8 @@ ghost use Rattle.chart.specs.Drawing.{signOf, rowOf, pictureOf};
 // Room for a number and one byte after it: no usize has more than 20 decimal digits.
 const NUMBER: usize = 21;
 
-// Room for the longest text: the five numbers of the first line, and SIDE rows of SIDE signs, each with its LF.
+// Room for the longest text: the five numbers of the first line, and SIDE rows of SIDE signs, each
+// with its LF.
 pub const ROOM: usize = 5 * NUMBER + SIDE * (SIDE + 1);
 
 // "A program takes at most 65,536 input bytes".
@@ -82,7 +83,8 @@ fn put_rows(out: &mut [u8], sheet: &[u8], w: usize, h: usize)
     }
 }
 
-// Stamps a raster's bits on a lent sheet of the map's size, labels it, and writes the map's text: the first line, then the rows.
+// Stamps a raster's bits on a lent sheet of the map's size, labels it, and writes the map's text:
+// the first line, then the rows.
 fn put_map(out: &mut [u8], sheet: &mut [u8], bits: &[u8], w: usize, h: usize) -> usize
     requires { ⌜ MapRoom w h (now bits) (now sheet) (now out) ⌝ }
     ensures { λ r. ⌜ Puts (BitsShown w h (now (bits .entry))) (now (out .entry)) 0 (now (out .exit)) r ⌝ }
@@ -132,7 +134,8 @@ fn put_file(out: &mut [u8], src: &[u8]) -> usize
     }
 }
 
-// Writes the text for a map file to the front of the output, and hands back its length. The rest of the output stays.
+// Writes the text for a map file to the front of the output, and hands back its length. The rest of
+// the output stays.
 pub fn chart(src: &[u8], out: &mut [u8; ROOM]) -> usize
     ensures text { λ r. ⌜ (r ≤ room) × Charted (now (src .entry)) (take r (now (out .exit))) ⌝ }
     ensures rest { λ r. ⌜ drop r (now (out .exit)) ≡ drop r (now (out .entry)) ⌝ }

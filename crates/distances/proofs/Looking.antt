@@ -1,5 +1,6 @@
--- Looking one way on a sheet, hop by hop, the crossing itself first. While nothing marked has been met, the next hop either ends the look, with
--- its number as the distance, or goes on; past the edge there is nothing more to meet.
+-- Looking one way on a sheet, hop by hop, the crossing itself first. While nothing marked has been
+-- met, the next hop either ends the look, with its number as the distance, or goes on; past the
+-- edge there is nothing more to meet.
 use mathlib.Core.Path.{_≡_, refl}
 use mathlib.Core.List.{List}
 use mathlib.Core.Logic.{_≢_}

@@ -1,4 +1,5 @@
--- Hops one way: how many lead where. Only these laws look at the four ways one by one; what rests on them holds over any way.
+-- Hops one way: how many lead where. Only these laws look at the four ways one by one; what rests
+-- on them holds over any way.
 use mathlib.Core.Path.{_≡_}
 use Prim.Native.Nat.{ℕ, _+_, _-_, _<_}
 use native.Mathlib.Omega.{arith}

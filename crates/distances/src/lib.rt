@@ -1,4 +1,5 @@
-// Clear distances of one crossing, and whether home is assured, over a sheet that marks the closed crossings.
+// Clear distances of one crossing, and whether home is assured, over a sheet that marks the closed
+// crossings.
 mod look; // look.rt: the distance of one crossing, one way
 
 use field::NO_DISTANCE;
@@ -30,7 +31,8 @@ pub fn distances(s: &[u8], w: usize, h: usize, x: usize, y: usize) -> [u8; 4]
     ]
 }
 
-// Whether home's distance that way leaves room for the offset: it is none, or the offset is less. No other function compares the two.
+// Whether home's distance that way leaves room for the offset: it is none, or the offset is less.
+// No other function compares the two.
 fn enough(offset: usize, n: u8) -> bool
     ensures { λ r. ⌜ r ≡ enoughOf offset n ⌝ }
 {
@@ -40,7 +42,8 @@ fn enough(offset: usize, n: u8) -> bool
     offset < n as usize
 }
 
-// Whether one axis lets home at m be assured for the place at p, with home's distances upwards and downwards on it.
+// Whether one axis lets home at m be assured for the place at p, with home's distances upwards and
+// downwards on it.
 fn axis(up: u8, down: u8, m: usize, p: usize) -> bool
     ensures { λ r. ⌜ r ≡ axisOf up down m p ⌝ }
 {

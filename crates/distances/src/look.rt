@@ -1,5 +1,5 @@
-// The distance of one crossing, one way: the hops to the first mark along its row or column, or none. The crossing itself is looked at first, so
-// that a closed crossing has 0.
+// The distance of one crossing, one way: the hops to the first mark along its row or column, or
+// none. The crossing itself is looked at first, so that a closed crossing has 0.
 use crate::NONE;
 use sheets::mark;
 ghost use Rattle.field.specs.Distances.{Clear};

@@ -1,4 +1,5 @@
--- What asking for a drive makes, as the promise says it, from what the region finds: refused with it, or by the route's length, or the drive written.
+-- What asking for a drive makes, as the promise says it, from what the region finds: refused with
+-- it, or by the route's length, or the drive written.
 use mathlib.Core.Path.{_≡_, refl, _∙_}
 use mathlib.Core.List.{List, [], _∷_}
 use mathlib.Core.Logic.{inl, inr}
@@ -42,7 +43,8 @@ module _ {w h : ℕ} {s : List ℕ} {sx sy dx dy : ℕ} {g g′ : List ℕ} wher
       }
 
   module _ (f : Regioned w h s sx sy dx dy g g′ Somewhere) where
-    -- The region sheet is made, and neither 8 nor 9 applies. What stands there at s tells that there is a drive.
+    -- The region sheet is made, and neither 8 nor 9 applies. What stands there at s tells that
+    -- there is a drive.
     pub made-sheet : RegionSheet w h (Marked s w h) sx sy dx dy g′
     made-sheet = f .region-after .made (λ e. omega (arith, e .0))
 

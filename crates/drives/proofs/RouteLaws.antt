@@ -1,5 +1,6 @@
--- How a drive is written down. What stands on the route so far, followed by the drive that the chooser makes from the crossing it has come to, is
--- always the whole drive from s; and that crossing is always in the region, so there is a candidate as long as it is not d.
+-- How a drive is written down. What stands on the route so far, followed by the drive that the
+-- chooser makes from the crossing it has come to, is always the whole drive from s; and that
+-- crossing is always in the region, so there is a candidate as long as it is not d.
 use mathlib.Core.Path.{_≡_, refl, sym, ap, _∙_}
 use mathlib.Core.Bool.{true}
 use mathlib.Core.List.{List, [], _∷_, _++_, append-assoc}

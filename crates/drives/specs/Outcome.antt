@@ -1,5 +1,5 @@
--- The promise leaves one outcome: a case of the enum is known by its number and its values, the rows give one number, and it leaves one region sheet,
--- one route and one state.
+-- The promise leaves one outcome: a case of the enum is known by its number and its values, the
+-- rows give one number, and it leaves one region sheet, one route and one state.
 use mathlib.Core.Path.{_≡_, refl, ap₂}
 use mathlib.Core.List.{List}
 use Prim.Native.Nat.{ℕ}

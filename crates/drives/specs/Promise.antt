@@ -28,8 +28,8 @@ madeState z NoDrive = z
 madeState z Short = z
 madeState z (Filled n z′) = z′
 
--- What is made is refused by the rows that need the labels and by the route's, 8, 9 and 10, or not; the region sheet and the route are left as that
--- number says.
+-- What is made is refused by the rows that need the labels and by the route's, 8, 9 and 10, or not;
+-- the region sheet and the route are left as that number says.
 pub record Makes (w h : ℕ) (s : List ℕ) (sx sy dx dy z : ℕ) (g g′ route route′ : List ℕ) (made : Made) : Type 0 where
   pub given : Gives (drive-rows w h (Marked s w h) sx sy dx dy route) (madeNumber made)
   pub region-after : RegionAfter w h (Marked s w h) sx sy dx dy (madeNumber made) g g′

@@ -8,8 +8,9 @@ ghost use Rattle.regions.specs.Promise.{RegionAsked};
 ghost use Rattle.drives.specs.Promise.{Makes};
 use regions::Found;
 
-// What asking for a drive makes: nothing, an end being closed (8), there being no shortest drive (9) or the route too short (10); or so many
-// crossings at the route's front, and the state after it.
+// What asking for a drive makes: nothing, an end being closed (8), there being no shortest drive
+// (9) or the route too short (10); or so many crossings at the route's front, and the state after
+// it.
 pub enum Made {
     Closed,
     NoDrive,
@@ -32,8 +33,9 @@ pub fn draw(z: u32) -> u32
     std::num::wrapping_add_u32(wrapping_product(1664525, z), 1013904223)
 }
 
-// The chooser's drive from (sx, sy) to (dx, dy) in state z, into the front of a lent route; the rest of the route stays. The region comes
-// first, and only when there is a shortest drive is the route's length looked at: at 8, 9 and 10 the route stays as it was.
+// The chooser's drive from (sx, sy) to (dx, dy) in state z, into the front of a lent route; the
+// rest of the route stays. The region comes first, and only when there is a shortest drive is the
+// route's length looked at: at 8, 9 and 10 the route stays as it was.
 pub fn fill(
     s: &[u8],
     w: usize,

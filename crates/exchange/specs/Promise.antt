@@ -1,6 +1,7 @@
--- What the parts of the two map-file calls promise that need no list of records. Writing: the map's size is told, and once the rocks are stamped on a
--- sheet of that size, the second part finds 16 and 17 or writes. Reading: the first part finds every refusal and has the file's bits; the second part goes
--- from rock to rock.
+-- What the parts of the two map-file calls promise that need no list of records. Writing: the map's
+-- size is told, and once the rocks are stamped on a sheet of that size, the second part finds 16
+-- and 17 or writes. Reading: the first part finds every refusal and has the file's bits; the second
+-- part goes from rock to rock.
 use mathlib.Core.Path.{_≡_}
 use mathlib.Core.List.{List}
 use Prim.Native.Nat.{ℕ, _*_, _<_, _≤_}
@@ -28,12 +29,13 @@ abbrev pub wroteMap : Wrote → WroteMap
 wroteMap (Bytes n) = record { refusal = wroteNumber (Bytes n); bytes = n }
 wroteMap Short = no-bytes (wroteNumber Short)
 
--- What the second part asks: where nothing is refused so far, a map within the limits and a sheet of its size.
+-- What the second part asks: where nothing is refused so far, a map within the limits and a sheet
+-- of its size.
 abbrev pub MayWrite : ℕ → ℕ → ℕ → List ℕ → Type 0
 MayWrite n w h sheet = n ≡ success → Asked w h sheet
 
--- The second part of writing, after a first part that gave n. `count` markers are stamped on the sheet: fewer marks than markers mean that two share a
--- crossing.
+-- The second part of writing, after a first part that gave n. `count` markers are stamped on the
+-- sheet: fewer marks than markers mean that two share a crossing.
 pub data WriteRest (n count w h : ℕ) (sheet out after : List ℕ) (r : WroteMap) : Type 0 where
   refused : ¬ (n ≡ success) → r ≡ no-bytes n → after ≡ out → WriteRest n count w h sheet out after r
   shared : n ≡ success → ¬ (marks sheet ≡ count) → r ≡ no-bytes shared-crossing → after ≡ out → WriteRest n count w h sheet out after r
@@ -45,8 +47,8 @@ abbrev pub readMap : Reading → ReadMap
 readMap (Map w h count) = record { refusal = readNumber (Map w h count); width = w; height = h; count = count }
 readMap (Refused n) = no-map (readNumber (Refused n))
 
--- The first part of reading: the refusal of the file, or of its rocks where they find no slot, or the map, whose bits are the first of the bytes handed
--- back.
+-- The first part of reading: the refusal of the file, or of its rocks where they find no slot, or
+-- the map, whose bits are the first of the bytes handed back.
 pub data ReadFirst (file : List ℕ) (lent : ℕ) (out : List ℕ) (r : ReadMap) : Type 0 where
   refused : (n : ℕ) → ReadFault file lent n → r ≡ readMap (Refused n) → ReadFirst file lent out r
   found : (w h count : ℕ) → Taken file lent w h count out → r ≡ readMap (Map w h count) → ReadFirst file lent out r
@@ -65,7 +67,8 @@ pub record NextRock (bits : List ℕ) (from r : ℕ) : Type 0 where
   pub rock : ¬ (getD bits r 0 ≡ 0)
   pub first : (i : ℕ) → from ≤ i → i < r → getD bits i 0 ≡ 0
 
--- What a rock's marker asks: its place is on a map within the limits, and there are fewer rocks before it than may be in use.
+-- What a rock's marker asks: its place is on a map within the limits, and there are fewer rocks
+-- before it than may be in use.
 pub record MayMark (w h place k : ℕ) : Type 0 where
   pub sides : Sides w h
   pub on : place < h * w

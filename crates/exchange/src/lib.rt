@@ -1,5 +1,5 @@
-// The parts of the two map-file calls that need no list of records: writing from a sheet on which the rocks are stamped, and reading into bits, from
-// which each rock's marker is told.
+// The parts of the two map-file calls that need no list of records: writing from a sheet on which
+// the rocks are stamped, and reading into bits, from which each rock's marker is told.
 use calls::ReadMap;
 use calls::WroteMap;
 use field::Marker;
@@ -38,7 +38,8 @@ fn count_marks(sheet: &[u8]) -> usize
     n
 }
 
-// The second part of writing, over a sheet on which `count` markers are stamped. n is the refusal that was found before, or 0.
+// The second part of writing, over a sheet on which `count` markers are stamped. n is the refusal
+// that was found before, or 0.
 pub fn write_stamped(
     n: u8,
     count: usize,
@@ -72,7 +73,8 @@ pub fn write_stamped(
     }
 }
 
-// The first part of reading: the file's bits in raster order, and the map or the refusal, 12, 13, 1, 14, 15 or 7. `lent` is how many slots the list has.
+// The first part of reading: the file's bits in raster order, and the map or the refusal, 12, 13,
+// 1, 14, 15 or 7. `lent` is how many slots the list has.
 pub fn read_bits(src: &[u8], lent: usize, bits: &mut [u8]) -> ReadMap
     requires { ⌜ side * side ≤ length (now bits) ⌝ }
     ensures { λ r. ⌜ ReadFirst (now (src .entry)) lent (now (bits .exit)) r ⌝ }
@@ -106,7 +108,8 @@ pub fn next_rock(bits: &[u8], from: usize) -> usize
     i
 }
 
-// The marker of the rock that stands at this place in raster order, the k-th of the file: ids rise from 1. "The first raster row is the northmost."
+// The marker of the rock that stands at this place in raster order, the k-th of the file: ids rise
+// from 1. "The first raster row is the northmost."
 pub fn marker_of(w: usize, h: usize, place: usize, k: usize) -> Marker
     requires { ⌜ MayMark w h place k ⌝ }
     ensures { λ r. ⌜ r ≡ markerAt w h (k + 1) place ⌝ }

@@ -1,6 +1,7 @@
--- What document 01 defines. The eight modules first named are meanings: relations in the document's words, which a reader must believe.
--- Limits has the numbers that the code's constants share with them. Workings compute, and each agrees with its meaning; Geometry has the theorems
--- that need no code; Table has the settled examples, and FurtherTable what they leave open.
+-- What document 01 defines. The eight modules first named are meanings: relations in the document's
+-- words, which a reader must believe. Limits has the numbers that the code's constants share with
+-- them. Workings compute, and each agrees with its meaning; Geometry has the theorems that need no
+-- code; Table has the settled examples, and FurtherTable what they leave open.
 pub mod Map
 pub mod Refusals
 pub mod Labels

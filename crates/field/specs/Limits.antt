@@ -1,4 +1,5 @@
--- The limits as the code's constants have them. Every proof that needs such a number cites it from here.
+-- The limits as the code's constants have them. Every proof that needs such a number cites it from
+-- here.
 use mathlib.Core.Path.{_≡_, refl}
 use Prim.Native.Nat.{ℕ, _*_, _≤_}
 use native.Mathlib.Omega.{arith}

@@ -1,4 +1,5 @@
--- Every settled example of document 01 that is marked * holds of the definitions: each row of the table passes its test.
+-- Every settled example of document 01 that is marked * holds of the definitions: each row of the
+-- table passes its test.
 use mathlib.Core.Path.{_≡_, refl}
 use mathlib.Core.Bool.{true}
 use Rattle.field.specs.Table.{EveryRow, table}

@@ -1,4 +1,5 @@
--- Workings: functions on sheets that compute what document 01 defines, each with the theorem, both ways, that it agrees with the meaning.
+-- Workings: functions on sheets that compute what document 01 defines, each with the theorem, both
+-- ways, that it agrees with the meaning.
 pub mod Tests
 pub mod Sheet
 pub mod Marks

@@ -1,5 +1,5 @@
-// The field: what document 01 defines, as meanings that a reader must believe and workings that compute. The definitions stand in specs/;
-// here stands only what code and definitions share.
+// The field: what document 01 defines, as meanings that a reader must believe and workings that
+// compute. The definitions stand in specs/; here stands only what code and definitions share.
 pub mod refusals; // refusals.rt: the refusal numbers
 
 // "Width and height: 1 to 64 each."

@@ -1,4 +1,5 @@
--- The header's parts put together: a number after a separator, and the header of two such numbers and the last blank.
+-- The header's parts put together: a number after a separator, and the header of two such numbers
+-- and the last blank.
 use mathlib.Core.Path.{_≡_, sym, ap, subst, _∙_}
 use mathlib.Core.Bool.{false}
 use mathlib.Core.List.{List, [], _∷_}

@@ -35,7 +35,8 @@ gapAt (suc e) = Ends (suc e)
 abbrev pub Past : ℕ → Bool → Type 0
 Past at seen = seen ≡ true → 1 ≤ at
 
--- Where a skipper may begin. That its length is a machine's number, a slice behind a reference does not say of itself.
+-- Where a skipper may begin. That its length is a machine's number, a slice behind a reference does
+-- not say of itself.
 pub record MaySkip (src : List ℕ) (at : ℕ) (seen : Bool) : Type 0 where
   pub counted : Fits w64 (length src)
   pub within : at ≤ length src
@@ -50,7 +51,8 @@ abbrev pub numeralEnd : ℕ → ℕ → ℕ → Numeral
 numeralEnd zero v e = NumeralMissing
 numeralEnd (suc n) v e = NumeralValue v e
 
--- Document 01's number for each case, 13 where there is no header, and its values: width, height and where the raster begins.
+-- Document 01's number for each case, 13 where there is no header, and its values: width, height
+-- and where the raster begins.
 abbrev pub headNumber : Head → ℕ
 headNumber (HeadSides w h e) = success
 headNumber HeadMissing = bad-header

@@ -1,4 +1,5 @@
-// Refusals that are told from numbers and yes-or-no answers alone, the lowest first. Nothing here touches what is lent.
+// Refusals that are told from numbers and yes-or-no answers alone, the lowest first. Nothing here
+// touches what is lent.
 use field::MOST_MARKERS;
 use field::Marker;
 use field::refusals::BAD_LIST;
@@ -28,7 +29,8 @@ fn on_map(w: usize, h: usize, x: usize, y: usize) -> bool
     y < h
 }
 
-// Whether a sheet of n bytes is of the map's size. The product is made only within the limit, so that it does not overflow.
+// Whether a sheet of n bytes is of the map's size. The product is made only within the limit, so
+// that it does not overflow.
 pub fn fits(w: usize, h: usize, n: usize) -> bool
     ensures { λ r. ⌜ ((r ≡ true) ↔ Fits w h n) ⌝ }
 {
@@ -54,8 +56,9 @@ pub fn four_fit(w: usize, h: usize, n: usize, m: usize, k: usize, l: usize) -> b
     fits(w, h, l)
 }
 
-// The lowest of refusals 1 to 4, or 0: n is the label sheet's length, `others` tells whether every other sheet is of the map's size, `well` whether
-// the list is well formed; (x, y) and (a, b) are the places asked.
+// The lowest of refusals 1 to 4, or 0: n is the label sheet's length, `others` tells whether every
+// other sheet is of the map's size, `well` whether the list is well formed; (x, y) and (a, b) are
+// the places asked.
 pub fn lowest(
     w: usize,
     h: usize,

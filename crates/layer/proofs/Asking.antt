@@ -1,5 +1,6 @@
--- The call of `prepare`, with which every asking begins: what it is asked, and the call itself, whatever else the walk has. The list is handed on, and the
--- label sheet is lent and comes back, as long as it was, with what `prepare` promises of it.
+-- The call of `prepare`, with which every asking begins: what it is asked, and the call itself,
+-- whatever else the walk has. The list is handed on, and the label sheet is lent and comes back, as
+-- long as it was, with what `prepare` promises of it.
 use Rattle.walks.specs.Prelude.{_≡_, refl, Bool, true, false, List, [], _∷_, ℕ, _<_, _^_, URA, fullShare, length, w8, w64, Place, Body, seq, call, Val, vint, vbool}
 use Rattle.walks.specs.Prelude.{SProp, emp, id⊢, Lft, Share, GName, ftrue, flft, Memory, Routine, Heap, Env, Calls, Loops, Atoms, Fun, FmC, Given, Item, ‵, raw, _⊛_}
 use Rattle.walks.specs.Prelude.{Post, Seq, runs, lands, _$_, move, split, join, Opds, uint-tells, uint-makes, bool-makes}
@@ -14,7 +15,8 @@ use Rattle.layer.specs.Prepared.{Prepared}
 use Rattle.layer.proofs.preparing.prepare as prepare
 use Rattle.layer.proofs.preparing.prepare.Symbol.{name as #prepare}
 
--- What `prepare` is asked beside the list: the map, and the two places. Each is a number of 64 bits.
+-- What `prepare` is asked beside the list: the map, and the two places. Each is a number of 64
+-- bits.
 pub record Asked : Type 0 where
   pub w : ℕ
   pub h : ℕ
@@ -89,8 +91,9 @@ module _ {M : Type 1} (𝓤 : URA M) (H : Heap 𝓤) (A : Atoms 𝓤) (W : Given
       takes-back t tt u8 i′ o′ old (ws .1 .1 .1 .1 .1 .1 .1 .1 .1 .0) (vsheet ∷ []) lentSheet ν δ (λ len. move t (3 ∷ 2 ∷ []) $ join t $ move t (1 ∷ 2 ∷ 0 ∷ []) $
       go n (ws .1 .1 .1 .1 .1 .1 .1 .1 .1 .0) e len (is .1))))
 
--- What is asked is two places, each number of them one of the asking's numbers by its place among them, or nought; width and height are its first two.
--- Each has 64 bits, and `prepare` is handed their operands.
+-- What is asked is two places, each number of them one of the asking's numbers by its place among
+-- them, or nought; width and height are its first two. Each has 64 bits, and `prepare` is handed
+-- their operands.
 pub record Places : Type 0 where
   pub x : Number
   pub y : Number

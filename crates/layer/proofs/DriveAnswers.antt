@@ -1,4 +1,5 @@
--- Region and drive: what the second part tells of a stamped sheet is what the call promises of the list.
+-- Region and drive: what the second part tells of a stamped sheet is what the call promises of the
+-- list.
 use mathlib.Core.Path.{_≡_}
 use mathlib.Core.Bool.{Bool, true}
 use mathlib.Core.List.{List, [], _∷_}

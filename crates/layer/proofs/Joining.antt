@@ -1,5 +1,6 @@
--- The two parts of an asking joined. The first part has judged and stamped; the rocks stamped on the sheet are the list's, so whatever the second part
--- tells of the sheet's rocks holds of the list's, and its rows come after those that the first part judged.
+-- The two parts of an asking joined. The first part has judged and stamped; the rocks stamped on
+-- the sheet are the list's, so whatever the second part tells of the sheet's rocks holds of the
+-- list's, and its rows come after those that the first part judged.
 use mathlib.Core.Path.{_≡_, refl, sym, subst, _∙_}
 use mathlib.Core.Bool.{Bool, true, false}
 use mathlib.Core.List.{List, [], _∷_, _++_}
@@ -68,7 +69,8 @@ four-tell {w} {h} {others} s t u v e =
       λ f. e .1 (record { sides = f .0; first = f .1 .0; second = f .1 .1 .0; third = f .1 .1 .1 .0; fourth = f .1 .1 .1 .1 .0 }),
     )
 
--- What an asking gives, and what it leaves on the label sheet. Where the sheet is labelled, the first part gave 0: n is its number.
+-- What an asking gives, and what it leaves on the label sheet. Where the sheet is labelled, the
+-- first part gave 0: n is its number.
 pub record Answered (m : LentMap) (sheets : List (List ℕ)) (own : List Rule) (n : ℕ) (labels labels′ : List ℕ) (r : ℕ) : Type 0 where
   pub given : Gives (Rules.asking-table m sheets own) r
   pub labels-after : LabelsAfter (RocksOf m) (m .width) (m .height) r labels labels′
@@ -122,7 +124,8 @@ module _ {m : LentMap} {x y a b : ℕ} {others : Bool} {labels s : List ℕ} {n 
       small (yes z) = omega arith
       small (no f) = refusal-early f .1
 
-  -- The rows of a call: the first three and `own`, which say what the first part judged, and after them the rows `later`.
+  -- The rows of a call: the first three and `own`, which say what the first part judged, and after
+  -- them the rows `later`.
   module _ (sheets : List (List ℕ)) (own : List Rule) (rises : Rises bad-list own) (tells : Tells (m .width) (m .height) others sheets)
       (places : Sized m → Reworded (Rules.places-rule m x y a b ∷ []) own) where
     first-gives : Gives (Rules.asking-table m (labels ∷ sheets) own) n
@@ -135,7 +138,8 @@ module _ {m : LentMap} {x y a b : ℕ} {others : Bool} {labels s : List ℕ} {n 
         )
         (p .given)
 
-    -- What the second part gives by its rows, over the stones, and leaves on the label sheet, is what the call gives by `later` and leaves.
+    -- What the second part gives by its rows, over the stones, and leaves on the label sheet, is
+    -- what the call gives by `later` and leaves.
     pub joined : (rows later : List Rule) → Rises no-slot rows → (n ≡ 0 → Reworded rows later) → {r : ℕ} → Gives (before n ∷ rows) r → {t : List ℕ}
         → LabelsAfter (Stones (m .width) (m .height) s) (m .width) (m .height) r s t → Answered m (labels ∷ sheets) (own ++ later) n labels t r
     joined rows later up reworded {r} g {t} l = go (ℕ-discrete n 0) g

@@ -1,4 +1,5 @@
--- Labelling, distances, assurance and hops: what the second part tells of a stamped sheet is what the call promises of the list.
+-- Labelling, distances, assurance and hops: what the second part tells of a stamped sheet is what
+-- the call promises of the list.
 use mathlib.Core.Path.{_≡_, refl}
 use mathlib.Core.Bool.{Bool, true}
 use mathlib.Core.List.{List, [], _∷_}
@@ -23,7 +24,8 @@ use Rattle.layer.specs.Prepared.{Prepared}
 use Rattle.layer.proofs.Tables.{not-no}
 use Rattle.layer.proofs.Joining.{none-tell, four-tell, none-early, others-good, first-good, second-good, stones-alike, closed-alike, may-label, joined, joined-two}
 
--- A call that asks for no place names (0, 0), which is on every map; one that asks for one place names it twice.
+-- A call that asks for no place names (0, 0), which is on every map; one that asks for one place
+-- names it twice.
 no-place : (m : LentMap) → Sized m → Reworded (Rules.places-rule m 0 0 0 0 ∷ []) []
 no-place m sides = (⊎-elim (λ f. f on) (λ f. f on), tt)
   where

@@ -1,4 +1,5 @@
--- What the rows of entering and clearing leave where none applies, and what the calls promise of the list.
+-- What the rows of entering and clearing leave where none applies, and what the calls promise of
+-- the list.
 use mathlib.Core.Path.{_≡_, refl, subst}
 use mathlib.Core.List.{List, [], _∷_}
 use mathlib.Core.Logic.{inl}

@@ -1,5 +1,5 @@
--- An id is looked for in a well-formed list: the marker that stands in its place bears it, or no marker does. And what is found tells which rows of
--- entering and clearing apply.
+-- An id is looked for in a well-formed list: the marker that stands in its place bears it, or no
+-- marker does. And what is found tells which rows of entering and clearing apply.
 use mathlib.Core.Path.{_≡_, refl, ap, _∙_}
 use mathlib.Core.List.{List}
 use mathlib.Core.Logic.{_↔_, inl, inr}
@@ -31,7 +31,8 @@ module _ {m : LentMap} {id : ℕ} (sides : ¬ ¬ Sized m) (formed : Formed m) {k
       not-used : ¬ InUse (m .list) (m .count) id
       not-used u = omega (arith, place .lower (u .place) (omega (arith, u .below)), u .is)
 
-  -- A marker stands there: the ones before have lower ids, and the ones after higher ids than it has.
+  -- A marker stands there: the ones before have lower ids, and the ones after higher ids than it
+  -- has.
   pub found-there : k < m .count → {r : ℕ} → FoundAt (slot (m .list) k .id) id r → Gives (found-table m id) r
   found-there l {r} met = go (ℕ-discrete (slot (m .list) k .id) id)
     where

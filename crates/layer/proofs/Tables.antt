@@ -1,4 +1,5 @@
--- What is judged on numbers is what the tables of the calls give: their rows are told in other words.
+-- What is judged on numbers is what the tables of the calls give: their rows are told in other
+-- words.
 use mathlib.Core.Path.{_≡_, refl}
 use mathlib.Core.Bool.{Bool, true, false}
 use mathlib.Core.List.{List}

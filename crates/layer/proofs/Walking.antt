@@ -1,10 +1,13 @@
--- The walk of every asking, once, whatever its form (`Forms.antt`): it begins, `prepare` is called, the sheets are lent on, and the part that answers is
--- called and its result returned. So it is true because `prepare` and the part that answers keep their promises, and the law that joins these is all that
--- an asking has of its own.
+-- The walk of every asking, once, whatever its form (`Forms.antt`): it begins, `prepare` is called,
+-- the sheets are lent on, and the part that answers is called and its result returned. So it is
+-- true because `prepare` and the part that answers keep their promises, and the law that joins
+-- these is all that an asking has of its own.
 --
--- An asking names its form, what it asks `prepare`, what its code does (`Rows`), and that law (`Joins`). A row says what the compiled code does with the
--- locals, and holds by computation: `λ _ _. refl`. Where one is refused, the code does something else, or the compiler numbers the locals otherwise:
--- print it with `rt mir layer`, and hold it to the numbers at the head of `Coding.antt`. `body` is the row to look at first.
+-- An asking names its form, what it asks `prepare`, what its code does (`Rows`), and that law
+-- (`Joins`). A row says what the compiled code does with the locals, and holds by computation: `λ _
+-- _. refl`. Where one is refused, the code does something else, or the compiler numbers the locals
+-- otherwise: print it with `rt mir layer`, and hold it to the numbers at the head of `Coding.antt`.
+-- `body` is the row to look at first.
 use Rattle.walks.specs.Prelude.{_≡_, refl, sym, ap, subst, Bool, true, List, [], _∷_, _++_, none, some, ℕ, zero, suc, _<_, _^_, URA, T, length, Name, Fn, place}
 use Rattle.walks.specs.Prelude.{copy, opdTrue, Body, seq, call, return, Width, w8, Val, vint, vbool, hasTy, WT, SProp, ent, emp, id⊢, ftrue, Memory, Routine, Model}
 use Rattle.walks.specs.Prelude.{Heap, Env, Tables, WpFn, tyOf, spotOf, Atoms, Lfts, Shares, Fun, fact, Running, GhostRules, tables, fmOf, Given, Go, Item, ‵, raw, Post}
@@ -63,9 +66,10 @@ module _ {M : Type 1} (𝓤 : URA M) (H : Heap 𝓤) (A : Atoms 𝓤) (W : Given
   abbrev Answers : Type 1
   Answers = (κs : Lifetimes) (a : Arguments κs) (n : ℕ) (s : List ℕ) → Answer F κs → Ends κs a n s → Type 0
 
-  -- ---- what an asking does around its two calls
-  -- Judged: what it has learnt of the other sheets before `prepare`, and by that whether they fit. Asked: what it asks `prepare`. Then the operands of the two
-  -- calls, the local to which `prepare` answers, what the code does between the calls, and what is known of the locals before the first.
+  -- ---- what an asking does around its two calls Judged: what it has learnt of the other sheets
+  -- before `prepare`, and by that whether they fit. Asked: what it asks `prepare`. Then the
+  -- operands of the two calls, the local to which `prepare` answers, what the code does between the
+  -- calls, and what is known of the locals before the first.
   pub record Plan : Type 1 where
     pub Judged : (κs : Lifetimes) → Arguments κs → Type 0
     pub others : (κs : Lifetimes) (a : Arguments κs) → Judged κs a → Bool
@@ -86,8 +90,8 @@ module _ {M : Type 1} (𝓤 : URA M) (H : Heap 𝓤) (A : Atoms 𝓤) (W : Given
   abbrev lent-again : (P : Plan) (κs : Lifetimes) (qs : Tokens) (a : Arguments κs) → P .Judged κs a → ℕ → Known
   lent-again P κs qs a j n = after (P .between κs a) (answered-n P κs qs a j n)
 
-  -- The rows: the arguments are stored in the first locals; the result fits local 0; the two calls find what they are handed; and what is lent on between the
-  -- calls is there to be lent.
+  -- The rows: the arguments are stored in the first locals; the result fits local 0; the two calls
+  -- find what they are handed; and what is lent on between the calls is there to be lent.
   pub record Rows (P : Plan) : Type 0 where
     pub stored : (κs : Lifetimes) (qs : Tokens) (a : Arguments κs) → Typed (mirs (typesAt (asking-params T.the-row F) κs)) (passed 𝓤 H A W T.the-row F c κs qs a) → Passed 𝓤 H (trimmed f .locals) (passed 𝓤 H A W T.the-row F c κs qs a)
     pub typed : (κs : Lifetimes) (r : Answer F κs) → IsAnswer F κs r → T (hasTy (tyOf 𝓤 H (head (f .locals))) (answer-val F κs r)) × WT (answer-val F κs r)
@@ -113,7 +117,8 @@ module _ {M : Type 1} (𝓤 : URA M) (H : Heap 𝓤) (A : Atoms 𝓤) (W : Given
     pub lent-on : (κs : Lifetimes) (qs : Tokens) (a : Arguments κs) (bs : Blocks (trimmed f .locals)) (j : P .Judged κs a) (n : ℕ) → length (labels κs a) < 2 ^ 64 → OthersAre κs qs a
         → Sound 𝓤 H (frame bs) (P .between κs a) (answered-n P κs qs a j n)
 
-  -- How the two parts join: φ is what the asking says, φ′ what the part that answers says. That part may be asked, and what it then says is what the asking says.
+  -- How the two parts join: φ is what the asking says, φ′ what the part that answers says. That
+  -- part may be asked, and what it then says is what the asking says.
   pub record Joins (P : Plan) (φ : Says) (φ′ : Answers) : Type 2 where
     pub ghost : (κs : Lifetimes) (a : Arguments κs) (n : ℕ) (s : List ℕ) → c′ (κs .1) (answer-args T.the-row F κs a n s) .ghost
     pub may : (κs : Lifetimes) (a : Arguments κs) (j : P .Judged κs a) (n : ℕ) (s : List ℕ) → prepared P κs a j n s → ent 𝓤 (emp 𝓤) (c′ (κs .1) (answer-args T.the-row F κs a n s) .requires (ghost κs a n s))
@@ -200,10 +205,12 @@ module _ {M : Type 1} (𝓤 : URA M) (H : Heap 𝓤) (A : Atoms 𝓤) (W : Given
           (straight (at-hand κs qs a []) E [] ! (labels-on F κs a (suc (answer-local F)) ∷ []) (begun κs qs a) (from-prepare plain κs a)
           (labels-lent κs qs a bs (labels-room T.the-row F κs a (vals 𝓤 H A W T.the-row F c κs qs a) are)) (go tt)))
 
-      -- ---- an asking that judges the first t of the other things lent, by a function of the map and of their lengths
+      -- ---- an asking that judges the first t of the other things lent, by a function of the map
+      -- and of their lengths
       module _ (t : ℕ) (ws : List Width) (cⱼ : Clauses 𝓤 (judging ws)) (judge : Name) (known-judge : Triple 𝓤 (𝓣 .C judge) (Promised 𝓤 H A (judging ws) cⱼ))
           (judged : (κs : Lifetimes) → Arguments κs → Denots (typesAt (judging-params ws) tt)) (told : (κs : Lifetimes) → Arguments κs → Bool → Type 0) where
-        -- The locals: the truth whether they fit, the refusal that `prepare` answers, the lengths, and then what is lent on.
+        -- The locals: the truth whether they fit, the refusal that `prepare` answers, the lengths,
+        -- and then what is lent on.
         abbrev o : ℕ
         o = answer-local F
 
@@ -234,7 +241,8 @@ module _ {M : Type 1} (𝓤 : URA M) (H : Heap 𝓤) (A : Atoms 𝓤) (W : Given
           known = λ κs qs a j. after (labels-on F κs a p ∷ []) (keeps o (vbool (j .0)) (sized-up κs qs a));
         }
 
-        -- The rows before `prepare`: the code; the lengths are there to be read; the judge is called; and the label sheet is there to be lent on.
+        -- The rows before `prepare`: the code; the lengths are there to be read; the judge is
+        -- called; and the label sheet is there to be lent on.
         pub record JudgeRows : Type 2 where
           pub body : (κs : Lifetimes) (a : Arguments κs) → f .body ≡ coded (sizes κs a) (seq (call judge to-judge (place o [])) (coded (labels-on F κs a p ∷ []) (from-prepare judging-plan κs a)))
           pub sizes-read : (κs : Lifetimes) (qs : Tokens) (a : Arguments κs) (bs : Blocks (trimmed f .locals)) → OthersAre κs qs a → Sound 𝓤 H (frame bs) (sizes κs a) (begun κs qs a)

@@ -1,4 +1,5 @@
--- The first part of every asking: refusals 1 to 4, found before anything is written, and the rocks stamped on the label sheet where there is none.
+-- The first part of every asking: refusals 1 to 4, found before anything is written, and the rocks
+-- stamped on the label sheet where there is none.
 use mathlib.Core.Path.{_≡_}
 use mathlib.Core.Bool.{Bool, false}
 use mathlib.Core.List.{List, [], _∷_}
@@ -10,8 +11,9 @@ use Rattle.records.specs.Promise.{StampedWith}
 use Rattle.calls.specs.Rules
 use Rattle.calls.specs.Rules.{LentMap, Rule, Gives, rule}
 
--- The rows before anything is written. `others` tells whether every other lent sheet has width × height bytes. A call that asks for one place names it
--- twice, and a call that asks for none names (0, 0), which is on every map.
+-- The rows before anything is written. `others` tells whether every other lent sheet has width ×
+-- height bytes. A call that asks for one place names it twice, and a call that asks for none names
+-- (0, 0), which is on every map.
 abbrev pub asking-found : LentMap → ℕ → ℕ → ℕ → ℕ → Bool → List ℕ → List Rule
 asking-found m x y a b others labels =
     Rules.size-rule m
@@ -25,6 +27,7 @@ pub record Prepared (m : LentMap) (x y a b : ℕ) (others : Bool) (labels labels
   pub refused : ¬ (r ≡ 0) → labels′ ≡ labels
   pub stamped : r ≡ 0 → StampedWith (m .width) (m .height) (m .list) (m .count) labels′
 
--- What is found of the map, the list and an id, before a marker is entered or cleared: one row always applies.
+-- What is found of the map, the list and an id, before a marker is entered or cleared: one row
+-- always applies.
 abbrev pub found-table : LentMap → ℕ → List Rule
 found-table m id = Rules.size-rule m ∷ Rules.list-rule m ∷ Rules.in-use-rule m id ∷ Rules.not-in-use-rule m id ∷ []

@@ -1,5 +1,5 @@
--- From the parts of reading to the call's promise. Where the first part refuses, the count is 0, and the second part puts nothing; else it puts the
--- markers of the map in the first slots.
+-- From the parts of reading to the call's promise. Where the first part refuses, the count is 0,
+-- and the second part puts nothing; else it puts the markers of the map in the first slots.
 use mathlib.Core.Path.{_≡_, refl, sym, ap, ap₂, _∙_}
 use mathlib.Core.List.{List, [], _∷_, _++_, append-assoc}
 use mathlib.Core.Logic.{_⊎_, inl, inr}

@@ -1,5 +1,5 @@
--- A stamped sheet has as many marks as there are markers in use exactly where no two share a crossing: it has the marks that stamping them one after
--- the other makes.
+-- A stamped sheet has as many marks as there are markers in use exactly where no two share a
+-- crossing: it has the marks that stamping them one after the other makes.
 use mathlib.Core.Path.{_≡_, sym, _∙_}
 use mathlib.Core.List.{List}
 use mathlib.Core.Logic.{inl, inr}

@@ -1,5 +1,7 @@
--- From the parts of writing to the call's promise. The first part's refusals are rows 1 and 3 of the table: the sheet is of the map's size and no place
--- is asked. The second part's are rows 16 and 17: the sheet's marks are the list's rocks, and as many as the markers exactly where no two share one.
+-- From the parts of writing to the call's promise. The first part's refusals are rows 1 and 3 of
+-- the table: the sheet is of the map's size and no place is asked. The second part's are rows 16
+-- and 17: the sheet's marks are the list's rocks, and as many as the markers exactly where no two
+-- share one.
 use mathlib.Core.Path.{_≡_, refl, ap, _∙_}
 use mathlib.Core.Bool.{true, false, true≢false}
 use mathlib.Core.List.{List, _++_}
@@ -50,7 +52,8 @@ written-moved {w} {h} same p =
     here : (r x : ℕ) → r < h → x < w → On w h x (h - (r + 1))
     here r x a b = record { in-x = b; in-y = omega arith }
 
--- What the first part tells: the map's size is against the limits, or the list is not well formed, or nothing is refused.
+-- What the first part tells: the map's size is against the limits, or the list is not well formed,
+-- or nothing is refused.
 data First (m : LentMap) (n : ℕ) : Type 0 where
   no-size : ¬ Sized m → n ≡ bad-size → First m n
   no-list : Sized m → ¬ Formed m → n ≡ bad-list → First m n

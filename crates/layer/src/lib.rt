@@ -1,4 +1,5 @@
-// The public calls over the lent list of marker records. No call relies on its caller: each answers by the lowest refusal that applies, or succeeds.
+// The public calls over the lent list of marker records. No call relies on its caller: each answers
+// by the lowest refusal that applies, or succeeds.
 pub mod files; // files.rt: the two map-file calls
 mod preparing; // preparing.rt: the first part of every asking
 pub mod route; // route.rt: the drive, of which a part of the route is handed back
@@ -17,7 +18,8 @@ ghost use Rattle.calls.specs.Rules.{Gives, lentMap};
 ghost use Rattle.calls.specs.Calls.{EnterCall, ClearCall, LabelCall, DistancesCall, MeasureCall, AssuredCall, HopCall, RegionCall, DriveCall};
 ghost use Rattle.layer.specs.Prepared.{found-table};
 
-// What is found of the map, the list and an id: refusal 1 or 3, or the id in use, 5, or not in use, 6.
+// What is found of the map, the list and an id: refusal 1 or 3, or the id in use, 5, or not in use,
+// 6.
 fn seek(list: &[Marker], count: usize, w: usize, h: usize, id: u16) -> u8
     ensures { λ r. ⌜ Gives (found-table (lentMap (now (list .entry)) count w h) id) r ⌝ }
 {
@@ -88,7 +90,8 @@ pub extern "C" fn bodkin_clear(
     }
 }
 
-// Labels the map. Hands back the numbers of rocks' crossings, shut crossings and groups, or the refusal: 1, 2 or 3.
+// Labels the map. Hands back the numbers of rocks' crossings, shut crossings and groups, or the
+// refusal: 1, 2 or 3.
 #[no_mangle]
 pub extern "C" fn bodkin_label(
     list: &[Marker],
@@ -120,7 +123,8 @@ pub extern "C" fn bodkin_distances(
     askings::distances(n, w, h, x, y, labels)
 }
 
-// The distances of the whole map, into one lent sheet for each way. Answers the refusal, 1, 2 or 3, or 0.
+// The distances of the whole map, into one lent sheet for each way. Answers the refusal, 1, 2 or 3,
+// or 0.
 #[no_mangle]
 pub extern "C" fn bodkin_measure(
     list: &[Marker],
@@ -159,7 +163,8 @@ pub extern "C" fn bodkin_assured(
     askings::assured(n, w, h, hx, hy, x, y, labels)
 }
 
-// Every permitted hop from (x, y) towards home (hx, hy), none at home, or the refusal: 1, 2, 3, 4, 8 or 11.
+// Every permitted hop from (x, y) towards home (hx, hy), none at home, or the refusal: 1, 2, 3, 4,
+// 8 or 11.
 #[no_mangle]
 pub extern "C" fn bodkin_hop(
     list: &[Marker],
@@ -178,7 +183,8 @@ pub extern "C" fn bodkin_hop(
     askings::hop(n, w, h, hx, hy, x, y, labels)
 }
 
-// The crossings on at least one shortest drive from (sx, sy) to (dx, dy). Answers the refusal, 1, 2, 3, 4, 8 or 9, or 0.
+// The crossings on at least one shortest drive from (sx, sy) to (dx, dy). Answers the refusal, 1,
+// 2, 3, 4, 8 or 9, or 0.
 #[no_mangle]
 pub extern "C" fn bodkin_region(
     list: &[Marker],
@@ -199,8 +205,8 @@ pub extern "C" fn bodkin_region(
     askings::region(n, w, h, sx, sy, dx, dy, labels, region)
 }
 
-// A shortest drive from (sx, sy) to (dx, dy), drawn from the lent state, at the front of the lent route. Hands back how many crossings it has, or the
-// refusal: 1, 2, 3, 4, 8, 9 or 10.
+// A shortest drive from (sx, sy) to (dx, dy), drawn from the lent state, at the front of the lent
+// route. Hands back how many crossings it has, or the refusal: 1, 2, 3, 4, 8, 9 or 10.
 #[no_mangle]
 pub extern "C" fn bodkin_drive(
     list: &[Marker],

@@ -1,12 +1,14 @@
-// What every asking does first. It stands apart from the calls, so that the calls of the root and those of its modules rest on it, and it on none of them.
+// What every asking does first. It stands apart from the calls, so that the calls of the root and
+// those of its modules rest on it, and it on none of them.
 use field::Marker;
 use field::refusals::SUCCESS;
 ghost use Rattle.calls.specs.Rules.{lentMap};
 ghost use Rattle.layer.specs.Prepared.{Prepared};
 
-// The first part of every asking: the lowest of refusals 1 to 4, and where there is none, 0, and the rocks stamped on the label sheet. `others` tells
-// whether every other lent sheet is of the map's size; (x, y) and (a, b) are the places asked; a call that asks no place names (0, 0)
-// twice, which is on every map.
+// The first part of every asking: the lowest of refusals 1 to 4, and where there is none, 0, and
+// the rocks stamped on the label sheet. `others` tells whether every other lent sheet is of the
+// map's size; (x, y) and (a, b) are the places asked; a call that asks no place names (0, 0) twice,
+// which is on every map.
 pub fn prepare(
     list: &[Marker],
     count: usize,

@@ -1,12 +1,14 @@
-// The drive in the form that document 01 names: the filled part of the lent route is handed back. A returned reference cannot be exported to C, so
-// this call is for Rattle alone; `bodkin_drive` makes the same drive, and answers how many crossings it has.
+// The drive in the form that document 01 names: the filled part of the lent route is handed back. A
+// returned reference cannot be exported to C, so this call is for Rattle alone; `bodkin_drive`
+// makes the same drive, and answers how many crossings it has.
 use super::preparing::prepare;
 use field::Marker;
 ghost use Rattle.calls.specs.Rules.{lentMap};
 ghost use Rattle.calls.specs.Calls.{RouteCall};
 
-// A shortest drive from (sx, sy) to (dx, dy), drawn from the lent state, handed back as the leading part of the lent route: s first and d last, and
-// on a refusal empty. The number, 0 on success or 1, 2, 3, 4, 8, 9 or 10, goes out through `refusal`.
+// A shortest drive from (sx, sy) to (dx, dy), drawn from the lent state, handed back as the leading
+// part of the lent route: s first and d last, and on a refusal empty. The number, 0 on success or
+// 1, 2, 3, 4, 8, 9 or 10, goes out through `refusal`.
 pub fn drive<'a>(
     list: &[Marker],
     count: usize,

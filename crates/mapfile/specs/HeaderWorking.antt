@@ -1,5 +1,6 @@
--- The header read byte by byte, as functions on the bytes left: what is read, and what then is left. A separator is skipped as far as it goes, and
--- so are a number's digits, since neither a digit can belong to a separator nor a separator's byte to a number.
+-- The header read byte by byte, as functions on the bytes left: what is read, and what then is
+-- left. A separator is skipped as far as it goes, and so are a number's digits, since neither a
+-- digit can belong to a separator nor a separator's byte to a number.
 use mathlib.Core.Path.{_≡_, refl, _∙_}
 use mathlib.Core.Bool.{Bool, true, false}
 use mathlib.Core.List.{List, [], _∷_}
@@ -66,7 +67,8 @@ unfoldable pub endItems : Bool → List ℕ → Option (List ℕ)
 endItems true l = some l
 endItems false l = none
 
--- What follows the items of a separator, and what follows the rest of a comment and the items after it. `seen`: a blank was among the items so far.
+-- What follows the items of a separator, and what follows the rest of a comment and the items after
+-- it. `seen`: a blank was among the items so far.
 unfoldable mutual
   pub afterItems : List ℕ → Bool → Option (List ℕ)
   afterItems [] seen = endItems seen []
@@ -122,7 +124,8 @@ unfoldable pub endNumber : ℕ → ℕ → List ℕ → Value
 endNumber zero v l = no-value
 endNumber (suc n) v l = value v l
 
--- The value and what follows it, after n digits whose value is v. One digit too many, and there is no number.
+-- The value and what follows it, after n digits whose value is v. One digit too many, and there is
+-- no number.
 unfoldable pub numberFrom : List ℕ → ℕ → ℕ → Value
 numberFrom [] n v = endNumber n v []
 numberFrom (b ∷ l) n v =
@@ -169,7 +172,8 @@ pub last-blank-other : {b : ℕ} (l : List ℕ) → ¬ Blank b → lastBlank (b 
 unfolding lastBlank
 last-blank-other {b} l e = pick-no (blankDec b) _ _ e
 
--- The bytes l give these numbers, each after a separator, then the blank byte after the last, and this is what follows.
+-- The bytes l give these numbers, each after a separator, then the blank byte after the last, and
+-- this is what follows.
 unfoldable pub GivesNumbers : List ℕ → List ℕ → List ℕ → Type 0
 GivesNumbers [] l rest = lastBlank l ≡ some rest
 GivesNumbers (v ∷ vs) l rest = (m : List ℕ) × (nextNumber l ≡ value v m) × GivesNumbers vs m rest

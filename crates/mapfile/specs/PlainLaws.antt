@@ -1,5 +1,6 @@
--- A number has one way to be written without leading zeros. Read from the front, equal values of equally many digits give equal digits; and
--- if one had more digits, those in front would have the value 0, though the first of them is no zero.
+-- A number has one way to be written without leading zeros. Read from the front, equal values of
+-- equally many digits give equal digits; and if one had more digits, those in front would have the
+-- value 0, though the first of them is no zero.
 use mathlib.Core.Path.{_≡_, refl, sym, ap, _∙_}
 use mathlib.Core.List.{List, [], _∷_, _++_}
 use Prim.Native.Nat.{ℕ, suc, _+_, _*_, _-_, _<_, _≤_}

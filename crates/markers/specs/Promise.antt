@@ -1,4 +1,5 @@
--- A marker of its parts; what entering, clearing and a search by halves ask of a list; and what entering and clearing make of it.
+-- A marker of its parts; what entering, clearing and a search by halves ask of a list; and what
+-- entering and clearing make of it.
 use mathlib.Core.Path.{_≡_}
 use mathlib.Core.List.{List}
 use Prim.Native.Nat.{ℕ, _+_, _<_, _≤_}

@@ -7,8 +7,9 @@ use Rattle.field.specs.declared.Marker.{Marker}
 use Rattle.field.specs.Map.{On, most-markers}
 use Rattle.markers.specs.List.{WellFormed, InUse, Entered, Cleared}
 
--- From any well-formed list, such as one with nothing in use, whatever its slots hold; by entering a marker of the map with an id that is not 0 and not in use, where there is
--- a slot; by clearing an id in use.
+-- From any well-formed list, such as one with nothing in use, whatever its slots hold; by entering
+-- a marker of the map with an id that is not 0 and not in use, where there is a slot; by clearing
+-- an id in use.
 pub data Reached (w h : ℕ) : List Marker → ℕ → Type 0 where
   start : {list : List Marker} {count : ℕ} → WellFormed w h list count → Reached w h list count
   enter : {list after : List Marker} {count next : ℕ} (m : Marker) → Reached w h list count → 1 ≤ m .id → On w h (m .x) (m .y)

@@ -1,4 +1,5 @@
--- The first two bytes and the formats' letters: the bytes begin with a format's letters exactly when the first two are the same as those.
+-- The first two bytes and the formats' letters: the bytes begin with a format's letters exactly
+-- when the first two are the same as those.
 use mathlib.Core.Path.{_≡_, refl, ap, subst}
 use mathlib.Core.List.{List, [], _∷_}
 use Prim.Native.Nat.{ℕ, _≤_}

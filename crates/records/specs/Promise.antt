@@ -34,7 +34,8 @@ pub record MayStamp (w h : ℕ) (list : List Marker) (count : ℕ) (sheet : List
   pub formed : WellFormed w h list count
   pub size : length sheet ≡ h * w
 
--- The sheet stamped: 1 on each crossing with a marker in use, however many stand on it, and 0 elsewhere.
+-- The sheet stamped: 1 on each crossing with a marker in use, however many stand on it, and 0
+-- elsewhere.
 pub record StampedWith (w h : ℕ) (list : List Marker) (count : ℕ) (sheet : List ℕ) : Type 0 where
   pub size : length sheet ≡ h * w
   pub ones : (i : ℕ) → getD sheet i 0 ≤ 1

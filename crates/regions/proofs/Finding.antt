@@ -1,4 +1,5 @@
--- What is found, as the promise says it: an end closed, both ends open and no shortest drive, or some.
+-- What is found, as the promise says it: an end closed, both ends open and no shortest drive, or
+-- some.
 use mathlib.Core.Path.{_≡_, refl}
 use mathlib.Core.List.{List}
 use mathlib.Core.Logic.{inl, inr}
@@ -15,7 +16,8 @@ use Rattle.calls.specs.AfterLaws.{region-kept, region-zeros, region-made}
 use Rattle.regions.specs.declared.Found.the-variants.{EndClosed, Nowhere, Somewhere}
 use Rattle.regions.specs.Promise.{Regioned}
 
--- Where there is no shortest drive no crossing is in the region, and its sheet is all 0, as past its end.
+-- Where there is no shortest drive no crossing is in the region, and its sheet is all 0, as past
+-- its end.
 module _ {w h sx sy dx dy : ℕ} {C : ℕ → ℕ → Type 0} (none : ¬ HasDrive w h C sx sy dx dy) {g : List ℕ} (sheet : RegionSheet w h C sx sy dx dy g) where
   out-zero : {x y v : ℕ} → InOut (InRegion w h C sx sy dx dy x y) v → v ≡ 0
   out-zero (is-in e k) = absurd (none (record { route = k .route; shortest = k .shortest }))

@@ -1,5 +1,6 @@
--- How a pass walks over its rectangle: in a row column by column, and row by row, each farther from the pass's end than the one before. A hop
--- towards the end never leads farther from it, so what is passed is settled for good.
+-- How a pass walks over its rectangle: in a row column by column, and row by row, each farther from
+-- the pass's end than the one before. A hop towards the end never leads farther from it, so what is
+-- passed is settled for good.
 use mathlib.Core.Path.{_≡_, refl, ap, _∙_}
 use mathlib.Core.Bool.{cond}
 use mathlib.Core.List.{List}
@@ -28,7 +29,8 @@ pub record RowsTo (ex ey fx fy k a b : ℕ) : Type 0 where
   pub along : OnWay ey fy b
   pub behind : gap ey b < k
 
--- A pass in row y that has come to column x, which is still to be passed; and a pass that has come to row y. g was there first, g′ is there now.
+-- A pass in row y that has come to column x, which is still to be passed; and a pass that has come
+-- to row y. g was there first, g′ is there now.
 pub record InRowAt (w h ex ey fx y : ℕ) (v : ℕ → ℕ → ℕ) (g g′ : List ℕ) (x : ℕ) : Type 0 where
   pub across : OnWay ex fx x
   pub done : Pass w h ex ey (RowTo ex fx (gap ex x) y) v g g′

@@ -1,4 +1,5 @@
--- The promise leaves one outcome: each case of the enum has a number of its own, the rows give one number, and it leaves one sheet.
+-- The promise leaves one outcome: each case of the enum has a number of its own, the rows give one
+-- number, and it leaves one sheet.
 use mathlib.Core.Path.{_≡_, refl}
 use mathlib.Core.List.{List}
 use Prim.Native.Nat.{ℕ}

@@ -25,7 +25,8 @@ foundNumber EndClosed = end-closed
 foundNumber Nowhere = no-drive
 foundNumber Somewhere = success
 
--- What is found is refused by the rows that need the labels, 8 and 9, or not; and the sheet is left as that number says.
+-- What is found is refused by the rows that need the labels, 8 and 9, or not; and the sheet is left
+-- as that number says.
 pub record Regioned (w h : ℕ) (s : List ℕ) (sx sy dx dy : ℕ) (g g′ : List ℕ) (found : Found) : Type 0 where
   pub given : Gives (region-rows w h (Marked s w h) sx sy dx dy) (foundNumber found)
   pub region-after : RegionAfter w h (Marked s w h) sx sy dx dy (foundNumber found) g g′

@@ -11,9 +11,10 @@ pub enum Found {
     Somewhere,
 }
 
-// The region from (sx, sy) to (dx, dy) into a lent sheet, which is its own working memory. A pass from s marks what a shortest drive from s
-// reaches inside the rectangle that s and d span; a pass from d then keeps what also reaches d. With an end closed the sheet stays as it was;
-// with no shortest drive it ends all 0, and then s itself has no mark.
+// The region from (sx, sy) to (dx, dy) into a lent sheet, which is its own working memory. A pass
+// from s marks what a shortest drive from s reaches inside the rectangle that s and d span; a pass
+// from d then keeps what also reaches d. With an end closed the sheet stays as it was; with no
+// shortest drive it ends all 0, and then s itself has no mark.
 pub fn region(
     s: &[u8],
     w: usize,

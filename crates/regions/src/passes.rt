@@ -1,5 +1,6 @@
-// The two passes that make the region. Each walks over the rectangle that the two ends span: row by row from its own end's row to the other's,
-// and in each row from its own end's column to the other's, so that the neighbours one hop nearer its end are always behind it.
+// The two passes that make the region. Each walks over the rectangle that the two ends span: row by
+// row from its own end's row to the other's, and in each row from its own end's column to the
+// other's, so that the neighbours one hop nearer its end are always behind it.
 ghost use mathlib.Core.Path.{_≡_};
 ghost use mathlib.Core.Bool.{cond};
 ghost use lib.ListN.{set};

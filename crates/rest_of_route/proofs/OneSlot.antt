@@ -1,5 +1,5 @@
--- A local array of one marker, in a walk. Written whole, it lies in memory as a row of one element, which can be
--- lent as a slice; and such a row is the local's room again.
+-- A local array of one marker, in a walk. Written whole, it lies in memory as a row of one element,
+-- which can be lent as a slice; and such a row is the local's room again.
 use mathlib.Core.Path.{refl}
 use mathlib.Core.List.{List, [], _∷_}
 use Prim.Native.Nat.{ℕ}
@@ -39,8 +39,8 @@ module _ {M : Type 1} (𝓤 : URA M) (H : Heap 𝓤) (A : Atoms 𝓤) (W : Given
   pub one-typed : IsMarker m → T (hasTy mir-one (one m)) × WT (one m)
   one-typed is = array-typed T′.the-row (LL.lawful T′.the-type L′.the-laws 𝓤 H A W .typed) 1 (m ∷ []) (one m ∷ []) (one-is m is) .0
 
-  -- An array that is written whole lies in memory as its one element does, and an element that lies so is the
-  -- array's room.
+  -- An array that is written whole lies in memory as its one element does, and an element that lies
+  -- so is the array's room.
   pub lays-out : ent 𝓤 (sep 𝓤 (sem 𝓤 H A (fat fullShare mir-one b 0 (one m))) (sem 𝓤 H A (Array T′.the-row 1 .own (m ∷ []) (one m ∷ []))))
       (sem 𝓤 H A (row T′.the-row fullShare (m ∷ []) b 0))
   unfolding partOf

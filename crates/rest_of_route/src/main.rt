@@ -1,6 +1,7 @@
-// Runs the drive in the form that document 01 names, `layer::route::drive`. Its promise cannot say what the rest of
-// the lent route holds once the filled part is handed back. So the part is let go here and the whole buffer is
-// printed, on success and at refusals; what is printed is held to the file `stdout`.
+// Runs the drive in the form that document 01 names, `layer::route::drive`. Its promise cannot say
+// what the rest of the lent route holds once the filled part is handed back. So the part is let go
+// here and the whole buffer is printed, on success and at refusals; what is printed is held to the
+// file `stdout`.
 use field::Marker;
 ghost use mathlib.Core.List.{[], _∷_};
 ghost use Prim.Native.Nat.{_≤_};
@@ -12,8 +13,8 @@ const SLOTS: usize = 8;
 
 const OLD: u16 = 0xabcd;
 
-// The drive on a map with one rock. The list is a local array, and only this function lends it: one that lends markers
-// is walked by hand. The part of the route is handed on.
+// The drive on a map with one rock. The list is a local array, and only this function lends it: one
+// that lends markers is walked by hand. The part of the route is handed on.
 fn drive<'a>(
     rock: Marker,
     w: usize,
@@ -66,8 +67,9 @@ fn print(n: u32) {
     io::write_all(libc::STDOUT_FILENO, &text);
 }
 
-// Asks for a drive from (0, 0) on a map 4 by 3 with a rock on (2, 0), into the first `lent` slots of the buffer.
-// Prints the refusal, the part's length and the state in two halves, then every slot, lent or not.
+// Asks for a drive from (0, 0) on a map 4 by 3 with a rock on (2, 0), into the first `lent` slots
+// of the buffer. Prints the refusal, the part's length and the state in two halves, then every
+// slot, lent or not.
 fn ask(dx: usize, dy: usize, lent: usize)
     requires { ⌜ lent ≤ 8 ⌝ }
 {
@@ -104,8 +106,8 @@ fn ask(dx: usize, dy: usize, lent: usize)
     io::write_all(libc::STDOUT_FILENO, b"\n");
 }
 
-// Drives of four crossings into room to spare and into exactly as much, then refusals 10, 9, 8 and 4, then a drive of
-// one crossing.
+// Drives of four crossings into room to spare and into exactly as much, then refusals 10, 9, 8 and
+// 4, then a drive of one crossing.
 fn main() {
     ask(2, 1, 8);
     ask(2, 1, 4);

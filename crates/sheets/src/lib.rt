@@ -1,5 +1,5 @@
-// What is done with a sheet of any kind: whether its map's size is within the limits, a crossing's number, the byte that stands there, all bytes wiped;
-// and one hop along an axis.
+// What is done with a sheet of any kind: whether its map's size is within the limits, a crossing's
+// number, the byte that stands there, all bytes wiped; and one hop along an axis.
 use field::SIDE;
 ghost use mathlib.Core.Path.{_≡_};
 ghost use mathlib.Core.Bool.{true};

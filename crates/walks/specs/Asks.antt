@@ -1,5 +1,6 @@
--- An asking, walked: how it begins, and how it ends where the part that answers it is called last, whatever its form (`Forms.antt`). It begins with what its
--- parameters own taken apart, and it ends because what the part that answers says at its exit is what the asking says (`Passing.antt`).
+-- An asking, walked: how it begins, and how it ends where the part that answers it is called last,
+-- whatever its form (`Forms.antt`). It begins with what its parameters own taken apart, and it ends
+-- because what the part that answers says at its exit is what the asking says (`Passing.antt`).
 use mathlib.Core.Path.{_≡_, refl, sym, ap}
 use mathlib.Core.List.{List, [], _∷_}
 use mathlib.Core.Option.{none}
@@ -45,7 +46,8 @@ module _ {M : Type 1} (𝓤 : URA M) (H : Heap 𝓤) (A : Atoms 𝓤) (W : Given
     abbrev pub passed : List Val
     passed = flat (typesAt (Forms.asking-params R F) κs) vals
 
-    -- What a walk has: the label sheet with s on it, the tokens of its lifetime and of the list's, those of the other lifetimes, and the other things lent.
+    -- What a walk has: the label sheet with s on it, the tokens of its lifetime and of the list's,
+    -- those of the other lifetimes, and the other things lent.
     abbrev pub labels-at : List ℕ → Item 𝓤
     labels-at s = ‵ (mutOwn (κs .1 .0) u8 (Passing.labels-of R F κs a .ptr .0) (Passing.labels-of R F κs a .ptr .1) (Passing.labels-of R F κs a .name) s (slice-vals (Passing.labels-of R F κs a)))
 

@@ -1,9 +1,12 @@
--- The code of an asking, by its form (`Forms.antt`): which local holds what, what is lent on, and the operands of its calls. It is told as lists, which
--- `Straight.antt` runs in one step; that the compiled code is this code is the row `body` of each asking.
+-- The code of an asking, by its form (`Forms.antt`): which local holds what, what is lent on, and
+-- the operands of its calls. It is told as lists, which `Straight.antt` runs in one step; that the
+-- compiled code is this code is the row `body` of each asking.
 --
--- The compiler numbers the locals so: 0 the result, 1 the list, 2 the count, from 3 on the numbers, then the label sheet, then the other things lent. Then
--- those that a `let` names: the truth whether the other sheets fit, where it is asked, and the refusal that `prepare` answers. Then, in the order in which
--- the code needs them, the lengths that are read, and for each thing that is lent on a reference and, of a slice, the slice made of it.
+-- The compiler numbers the locals so: 0 the result, 1 the list, 2 the count, from 3 on the numbers,
+-- then the label sheet, then the other things lent. Then those that a `let` names: the truth
+-- whether the other sheets fit, where it is asked, and the refusal that `prepare` answers. Then, in
+-- the order in which the code needs them, the lengths that are read, and for each thing that is
+-- lent on a reference and, of a slice, the slice made of it.
 use mathlib.Core.Bool.{Bool, true, false}
 use mathlib.Core.List.{List, [], _∷_, _++_}
 use Prim.Native.Nat.{ℕ, zero, suc, _<_, _^_}
@@ -42,7 +45,8 @@ tail (l ∷ ls) = ls
 abbrev pub trimmed : Fn → Fn
 trimmed f = record { lifetimes = f .lifetimes; outlives = f .outlives; params = f .params; locals = head (f .locals) ∷ tail (f .locals); body = f .body }
 
--- The label sheet's local, where ws are the widths of the numbers before it; and the local past the things lent.
+-- The label sheet's local, where ws are the widths of the numbers before it; and the local past the
+-- things lent.
 abbrev pub labels-local : List Width → ℕ
 labels-local [] = 3
 labels-local (w ∷ ws) = suc (labels-local ws)
@@ -51,7 +55,8 @@ abbrev beyond : ℕ → List Lent → ℕ
 beyond i [] = i
 beyond i (k ∷ ks) = suc (beyond i ks)
 
--- The things lent are lent on, from local s on, into p and on; and named as operands. A slice lent as `&` is handed on as it is.
+-- The things lent are lent on, from local s on, into p and on; and named as operands. A slice lent
+-- as `&` is handed on as it is.
 abbrev lent-on : (n j s p : ℕ) (ks : List Lent) (κs : Lfts n) → Denots (typesAt (lents n j ks) κs) → List Stmt
 lent-on n j s p [] κs a = []
 lent-on n j s p (sheet R ∷ ks) κs a =
@@ -90,7 +95,8 @@ beside F κs a = others-of T.the-row F κs a
 abbrev pub handed-on : Form → ℕ → ℕ → List Operand
 handed-on F d p = copy (place d []) ∷ numbers-named 3 (F .widths) (copy (place (suc p) []) ∷ lent-named (suc (labels-local (F .widths))) (suc (suc p)) (F .lent))
 
--- What `prepare` is handed: the places asked, the truth `others`, and the label sheet, lent on in r.
+-- What `prepare` is handed: the places asked, the truth `others`, and the label sheet, lent on in
+-- r.
 abbrev pub to-first : List Operand → Operand → ℕ → List Operand
 to-first places others r = copy (place 1 []) ∷ copy (place 2 []) ∷ copy (place 3 []) ∷ copy (place 4 []) ∷ (places ++ (others ∷ copy (place r []) ∷ []))
 
@@ -109,7 +115,8 @@ pub num-makes : {M : Type 1} (𝓤 : URA M) (H : Heap 𝓤) (A : Atoms 𝓤) (W 
 num-makes 𝓤 H A W [] = tt
 num-makes 𝓤 H A W (w ∷ ws) = (uint-makes 𝓤 H A W w, num-makes 𝓤 H A W ws)
 
--- The lengths of the first t things lent are read, from local s on, into p and on; and named as operands.
+-- The lengths of the first t things lent are read, from local s on, into p and on; and named as
+-- operands.
 abbrev pub sized : (n j s p t : ℕ) (ks : List Lent) (κs : Lfts n) → Denots (typesAt (lents n j ks) κs) → List Stmt
 sized n j s p zero ks κs a = []
 sized n j s p (suc t) [] κs a = []
@@ -127,7 +134,8 @@ abbrev pub past-on : ℕ → ℕ → ℕ
 past-on p zero = p
 past-on p (suc t) = suc (past-on p t)
 
--- A number that is asked for: one of the call's numbers, by its place among them, or nought. It is of 64 bits.
+-- A number that is asked for: one of the call's numbers, by its place among them, or nought. It is
+-- of 64 bits.
 pub data Number : Type 0 where
   at : ℕ → Number
   nought : Number

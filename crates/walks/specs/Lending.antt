@@ -1,6 +1,7 @@
--- Lending, in a walk. A row of elements in memory is lent for a call as a slice, as `&mut` or as `&`, for a lifetime that lasts as long as the call, and
--- taken back after it. A slice that is itself lent as `&mut` is opened, so that its elements are at hand as a row, and shut with others in their place:
--- so it is lent on in the same way.
+-- Lending, in a walk. A row of elements in memory is lent for a call as a slice, as `&mut` or as
+-- `&`, for a lifetime that lasts as long as the call, and taken back after it. A slice that is
+-- itself lent as `&mut` is opened, so that its elements are at hand as a row, and shut with others
+-- in their place: so it is lent on in the same way.
 use mathlib.Core.Path.{_≡_, refl, sym, ap, subst, _∙_}
 use mathlib.Core.List.{List, [], _∷_}
 use Prim.Native.Nat.{ℕ}
@@ -43,7 +44,8 @@ lastly R γ ys zs = fsep (finally R γ zs) (feq ℕ (length zs) (length ys))
 abbrev code : (R : RattleType) → List (R .Denot) → Gv
 code R ys = codedHoleys R .code (heres R ys)
 
--- What a `&κ mut [T]` is known to be: its machine value is its place and length, and its elements have room.
+-- What a `&κ mut [T]` is known to be: its machine value is its place and length, and its elements
+-- have room.
 abbrev pub SliceIs : (R : RattleType) → ℕ → ℕ → List (R .Denot) → List Val → Type 0
 SliceIs R b o ys vs = (vs ≡ sliceVal (b, o) (length ys) ∷ []) × Room R (length ys)
 
@@ -52,7 +54,8 @@ module _ {M : Type 1} (𝓤 : URA M) where
   abbrev pub opened : Lft → Share → (R : RattleType) → ℕ → ℕ → GName → List (R .Denot) → Item 𝓤
   opened κ q R b o γ ys = ‵ (fobor κ q (Held R (length ys) b o γ)) ⊛ ‵ (fobs γ (code R ys)) ⊛ ‵ (fauth γ (code R ys))
 
-  -- What is kept while it is lent on for the lifetime ν: as `&mut`, known to the callee by δ, or as `&`.
+  -- What is kept while it is lent on for the lifetime ν: as `&mut`, known to the callee by δ, or as
+  -- `&`.
   abbrev pub lent : Lft → Share → (R : RattleType) → ℕ → ℕ → GName → List (R .Denot) → ℕ → GName → Item 𝓤
   lent κ q R b o γ ys ν δ = ‵ (flent (ν ∷ []) (Held R (length ys) b o δ)) ⊛ opened κ q R b o γ ys
 

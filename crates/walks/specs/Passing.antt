@@ -1,6 +1,7 @@
--- What passes between an asking and the part that answers it, whatever the form (`Forms.antt`): what the one owns is handed to the other, and what the
--- other says at its exit is what the one says. The numbers are plain and had for nothing, and a thing lent is the same thing at one lifetime fewer; so it
--- holds by recursion on the numbers and on the things lent.
+-- What passes between an asking and the part that answers it, whatever the form (`Forms.antt`):
+-- what the one owns is handed to the other, and what the other says at its exit is what the one
+-- says. The numbers are plain and had for nothing, and a thing lent is the same thing at one
+-- lifetime fewer; so it holds by recursion on the numbers and on the things lent.
 use mathlib.Core.Path.{_≡_, refl, ap, _∙_}
 use mathlib.Core.List.{List, [], _∷_}
 use Prim.Native.Nat.{ℕ, zero, suc, _<_, _^_}
@@ -247,7 +248,8 @@ spelled-past [] ss κs sp a = refl
 spelled-past (w ∷ ws) ss κs sp a = spelled-past ws ss κs sp (a .1)
 
 module _ (R : RattleType) (F : Form) (κs : Lfts (suc (suc (count (F .lent))))) (a : Denots (typesAt (asking-params R F) κs)) where
-  -- The label sheet's machine value, and the things known of the arguments: the label sheet has room, and so have the others.
+  -- The label sheet's machine value, and the things known of the arguments: the label sheet has
+  -- room, and so have the others.
   pub labels-spelled : labels-vals R F κs a (valss (typesAt (asking-params R F) κs) (asking-spells R F κs) a) ≡ slice-vals (labels-of R F κs a)
   labels-spelled = ap (λ (vs : Valss (typesAt (sheets-of F) κs)). vs .0) (spelled-past (F .widths) (sheets-of F) κs _ (a .1 .1))
 

@@ -1,5 +1,6 @@
--- The locals of a function that is walked, by their numbers, whatever stands before them in the context: a number is a place among the entries, so each step
--- on a local is a step on that entry. Operands are read off what is known of the locals, by computation.
+-- The locals of a function that is walked, by their numbers, whatever stands before them in the
+-- context: a number is a place among the entries, so each step on a local is a step on that entry.
+-- Operands are read off what is known of the locals, by computation.
 use mathlib.Core.Path.{_≡_, refl, sym, ap, subst, _∙_}
 use mathlib.Core.Bool.{Bool, true, false}
 use mathlib.Core.List.{List, [], _∷_, _++_}
@@ -86,7 +87,8 @@ module _ {M : Type 1} (𝓤 : URA M) (H : Heap 𝓤) where
   has-value (e ∷ E) vs zero h = held-some (first vs) h
   has-value (e ∷ E) vs (suc i) h = has-value E (rest vs) i h
 
-  -- Operands that are read off what is known of the locals, or are numbers or truths: whether each is there, and their values.
+  -- Operands that are read off what is known of the locals, or are numbers or truths: whether each
+  -- is there, and their values.
   abbrev pub readable : Env 𝓤 H → Known → List Operand → Bool
   readable E vs [] = true
   readable E vs (copy (place i []) ∷ xs) = both (holds E vs i) (readable E vs xs)
@@ -170,7 +172,8 @@ module _ {M : Type 1} {𝓤 : URA M} {H : Heap 𝓤} {A : Atoms 𝓤} {K : Type 
           subst (λ (Θ : List (Item 𝓤)). Step K W Θ (runs C Λ E rest z) (Δ ++ locals 𝓤 H A E vs Γ) (lands C Λ E (place i []) v rest z)) (put-local 𝓤 H A Δ E vs i none v Γ h)
           (land t (from t (stop t)) (init t (past 𝓤 H A Δ i) (nth-local 𝓤 H A Δ E vs i none Γ h) wt))
 
-      -- A slice that local s holds is lent on: a reference to its first element, in p, and with its length a slice again, in r.
+      -- A slice that local s holds is lent on: a reference to its first element, in p, and with its
+      -- length a slice again, in r.
       pub lends-on : K → (vs : Known) (s p r : ℕ) (b o n : ℕ) {σ τ : Ty} {rest : Body} → getD E s (noLocal 𝓤 H) .0 ≡ sliceTy σ
           → Has 𝓤 H E vs s (some (sliceOf b o n)) → Has 𝓤 H E vs p none → T (hasTy (spotOf 𝓤 H E p .0) (vptr b o)) × WT (vptr b o)
           → Has 𝓤 H E (keeps p (vptr b o) vs) s (some (sliceOf b o n)) → Has 𝓤 H E (keeps p (vptr b o) vs) p (some (vptr b o)) → Has 𝓤 H E (keeps p (vptr b o) vs) r none

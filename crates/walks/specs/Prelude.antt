@@ -1,5 +1,5 @@
--- What the walks share, passed on: what they cite of the logic, and the laws of walking. A walk takes its names from here. (`drop` of the logic is not
--- among them: lists have a `drop` too.)
+-- What the walks share, passed on: what they cite of the logic, and the laws of walking. A walk
+-- takes its names from here. (`drop` of the logic is not among them: lists have a `drop` too.)
 pub use Prim.Native.Nat.{_*_, _+_, _-_, _/_, _<_, _^_, _≤_, zero-le, ℕ, zero, suc}
 pub use Rattle.walks.specs.Calls.{called, pays, pays-lent}
 pub use Rattle.walks.specs.Frames.{Blocks, enters, envOf, leaves, locals, Known, Passed, these, rest}

@@ -1,5 +1,6 @@
--- One slot of a lent list of markers, in a walk: it is read, or another marker is put in it. The list is a slice, so slot i lies a marker's size further
--- on for each slot before it. The rules take the step that reads or stores, which sees the slot's cell at the head of the context.
+-- One slot of a lent list of markers, in a walk: it is read, or another marker is put in it. The
+-- list is a slice, so slot i lies a marker's size further on for each slot before it. The rules
+-- take the step that reads or stores, which sees the slot's cell at the head of the context.
 use mathlib.Core.Path.{_≡_, refl, sym}
 use mathlib.Core.List.{List, [], _∷_}
 use Prim.Native.Nat.{ℕ, _+_, _*_, _<_, _^_}

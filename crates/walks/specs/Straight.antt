@@ -1,5 +1,6 @@
--- A straight piece of code on the locals of a function that is walked, told as a list of what it does: a slice lent on, a length read, a reference lent on.
--- It is run in one step, by recursion on the list, where what it lends on and reads is there.
+-- A straight piece of code on the locals of a function that is walked, told as a list of what it
+-- does: a slice lent on, a length read, a reference lent on. It is run in one step, by recursion on
+-- the list, where what it lends on and reads is there.
 use mathlib.Core.Path.{_≡_, ap}
 use mathlib.Core.Bool.{Bool, true}
 use mathlib.Core.List.{List, [], _∷_, _++_}
@@ -16,7 +17,8 @@ use denote.Slice.{sliceTy}
 use Rattle.walks.specs.Frames.{Known, locals}
 use Rattle.walks.specs.Places.{keeps, known-at, has, true-T, sliceOf, lends-on, reads-length, passes-on}
 
--- A slice at (b, o), n long, that local s holds is lent on in r, by way of p; its length is read into p; or the reference that local s holds is lent on.
+-- A slice at (b, o), n long, that local s holds is lent on in r, by way of p; its length is read
+-- into p; or the reference that local s holds is lent on.
 pub data Stmt : Type 0 where
   lend : (s p r b o n : ℕ) (σ τ : Ty) → Stmt
   size : (s p b o n : ℕ) (σ : Ty) → Stmt
@@ -35,8 +37,9 @@ after (lend s p r b o n σ τ ∷ ss) vs = after ss (keeps r (sliceOf b o n) (ke
 after (size s p b o n σ ∷ ss) vs = after ss (keeps p (vint w64 n) vs)
 after (pass s p b o τ ∷ ss) vs = after ss (keeps p (vptr b o) vs)
 
--- What stands in the locals by which a slice is lent on: the type of the one that holds it, and it; the local for the reference, and whether it takes it; and
--- with the reference there, the slice, the reference, the local for the slice made of it, and whether it takes it.
+-- What stands in the locals by which a slice is lent on: the type of the one that holds it, and it;
+-- the local for the reference, and whether it takes it; and with the reference there, the slice,
+-- the reference, the local for the slice made of it, and whether it takes it.
 pub record Lending : Type 0 where
   pub type : Ty
   pub slice : Option (Option Val)
@@ -47,7 +50,8 @@ pub record Lending : Type 0 where
   pub for-slice : Option (Option Val)
   pub slice-fits : Bool
 
--- And by which a length is read, or a reference lent on: the local that holds it, with its type where that matters, and the local for it.
+-- And by which a length is read, or a reference lent on: the local that holds it, with its type
+-- where that matters, and the local for it.
 pub record Reading : Type 0 where
   pub type : Ty
   pub held : Option (Option Val)
@@ -84,7 +88,8 @@ module _ {M : Type 1} (𝓤 : URA M) (H : Heap 𝓤) (E : Env 𝓤 H) where
       _≡_ {A = Reading} (record { type = getD E s (noLocal 𝓤 H) .0; held = known-at 𝓤 H E vs s; room = known-at 𝓤 H E vs p; fits = hasTy (spotOf 𝓤 H E p .0) v })
       (record { type = τ; held = some (some u); room = some none; fits = true })
 
-  -- A piece of code is sound: what it lends on and reads is there. At given locals each is one equation, by `refl`, and a length beside it has 64 bits.
+  -- A piece of code is sound: what it lends on and reads is there. At given locals each is one
+  -- equation, by `refl`, and a length beside it has 64 bits.
   abbrev pub Sound : List Stmt → Known → Type 0
   Sound [] vs = Unit {0}
   Sound (lend s p r b o n σ τ ∷ ss) vs = (Lends vs s p r b o n σ × (n < 2 ^ 64)) × Sound ss (keeps r (sliceOf b o n) (keeps p (vptr b o) vs))
@@ -114,8 +119,9 @@ module _ {M : Type 1} {𝓤 : URA M} {H : Heap 𝓤} {A : Atoms 𝓤} {K : Type 
       passes-on Δ E Γ t vs s p b o (has 𝓤 H E vs s _ (ap (λ (l : Reading). l .held) h)) (has 𝓤 H E vs p _ (ap (λ (l : Reading). l .room) h)) (true-T (ap (λ (l : Reading). l .fits) h), tt) $
       straight t ss (keeps p (vptr b o) vs) rest (ok .1) k
 
--- What the two calls find: whether the operands of the first can be read, and what it is handed; the local to which it answers, and whether it takes the
--- answer; and then, the result not being there yet, the same of the second.
+-- What the two calls find: whether the operands of the first can be read, and what it is handed;
+-- the local to which it answers, and whether it takes the answer; and then, the result not being
+-- there yet, the same of the second.
 pub record TwoCalls : Type 0 where
   pub first-read : Bool
   pub first-handed : List Val

@@ -1,4 +1,5 @@
--- The digits that the code writes are the grammar's number without leading zeros: a digit more multiplies the value by ten and adds the digit.
+-- The digits that the code writes are the grammar's number without leading zeros: a digit more
+-- multiplies the value by ten and adds the digit.
 use mathlib.Core.Path.{_≡_, refl, sym, _∙_}
 use mathlib.Core.List.{List, [], _∷_, _++_}
 use Prim.Native.Nat.{ℕ, zero, suc, _+_, _*_, _-_, _/_, _%_, _^_, _<_, _≤_}

@@ -1,4 +1,5 @@
--- Numbers and the header as the code writes them, computed. That these are the grammar's numbers and header stands in DigitLaws.
+-- Numbers and the header as the code writes them, computed. That these are the grammar's numbers
+-- and header stands in DigitLaws.
 use mathlib.Core.List.{List, [], _∷_, _++_}
 use Prim.Native.Nat.{ℕ, zero, suc, _+_, _-_, _/_, _%_, _^_, _<_, _≤_}
 use Rattle.mapfile.specs.File.{raw-letters}

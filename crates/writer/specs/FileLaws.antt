@@ -1,4 +1,5 @@
--- Header and rows together are the whole file of the promise, and its length is the one that the code works out first.
+-- Header and rows together are the whole file of the promise, and its length is the one that the
+-- code works out first.
 use mathlib.Core.Path.{_≡_, _∙_}
 use mathlib.Core.List.{List, [], _∷_, _++_, append-assoc}
 use Prim.Native.Nat.{ℕ, _+_, _*_, _^_, _<_, _≤_}

@@ -1,5 +1,6 @@
-// The map writer: raw PBM, P4, from a sheet on which the rocks are stamped. The file's length comes first, so that an output too short is found
-// before a byte of it is touched. Then each piece of the file is written into its own part of the output.
+// The map writer: raw PBM, P4, from a sheet on which the rocks are stamped. The file's length comes
+// first, so that an output too short is found before a byte of it is touched. Then each piece of
+// the file is written into its own part of the output.
 ghost use mathlib.Core.Path.{_≡_};
 ghost use mathlib.Core.List.{_∷_, [], _++_};
 ghost use Prim.Native.Nat.{_≤_, _+_};
@@ -59,7 +60,8 @@ fn write_letters(out: &mut [u8])
     out[2] = b'\n';
 }
 
-// The header: "P4", LF, width, space, height, LF. The slice has just its length; the width has a digits and the height b.
+// The header: "P4", LF, width, space, height, LF. The slice has just its length; the width has a
+// digits and the height b.
 fn write_header(out: &mut [u8], w: usize, a: usize, h: usize, b: usize)
     requires { ⌜ length (now out) ≡ a + b + 5 ⌝ }
     ensures { λ _. ⌜ now (out .exit) ≡ headerOf w a h b ⌝ }
@@ -74,7 +76,8 @@ fn write_header(out: &mut [u8], w: usize, a: usize, h: usize, b: usize)
     out[end] = b'\n';
 }
 
-// Writes the map whose rocks are marked on the sheet. Bytes past the end stay; an output too short is left as it is.
+// Writes the map whose rocks are marked on the sheet. Bytes past the end stay; an output too short
+// is left as it is.
 pub fn write(s: &[u8], w: usize, h: usize, out: &mut [u8]) -> Wrote
     requires { ⌜ Asked w h (now s) ⌝ }
     ensures { λ r. ⌜ Writes w h (now (s .entry)) (now (out .entry)) (now (out .exit)) r ⌝ }

@@ -1,4 +1,5 @@
--- `assured` meets its promise: the test of the ends tells refusal 8, and then the test of assurance yes or no, over the label sheet's marks.
+-- `assured` meets its promise: the test of the ends tells refusal 8, and then the test of assurance
+-- yes or no, over the label sheet's marks.
 use mathlib.Core.Path.{refl, sym, _∙_}
 use mathlib.Core.Logic.{inl}
 use Rattle.calls.specs.AfterLaws.{labels-kept}

@@ -1,4 +1,5 @@
--- `distances` meets its promise: the distances over the label sheet's marks are those over the closed crossings.
+-- `distances` meets its promise: the distances over the label sheet's marks are those over the
+-- closed crossings.
 use mathlib.Core.Path.{refl}
 use mathlib.Core.Logic.{inl, inr}
 use native.Mathlib.Omega.{arith}

@@ -1,4 +1,5 @@
--- `drive` meets its promise: what asking for a drive makes over the label sheet's marks, as its number and values.
+-- `drive` meets its promise: what asking for a drive makes over the label sheet's marks, as its
+-- number and values.
 use Rattle.askings.proofs.Bridge.{drive-before, drive-told}
 use borrow.Author.Needs.{needs}
 use Rattle.askings.proofs.drive.Statement.{statement}

@@ -1,5 +1,5 @@
--- `hop` meets its promise: the test of the ends tells refusal 8, then the test of assurance 11, and what is left is the hop's answer, all over the label
--- sheet's marks.
+-- `hop` meets its promise: the test of the ends tells refusal 8, then the test of assurance 11, and
+-- what is left is the hop's answer, all over the label sheet's marks.
 use Rattle.askings.proofs.Bridge.{marked-stable, labelled-fits, hop-before, hop-closed, hop-not-assured, hop-told}
 use borrow.Author.Needs.{needs}
 use Rattle.askings.proofs.hop.Statement.{statement}

@@ -1,4 +1,5 @@
--- `label` meets its promise: at a refusal nothing was called, and else the labelling's promise is the one asked for.
+-- `label` meets its promise: at a refusal nothing was called, and else the labelling's promise is
+-- the one asked for.
 use mathlib.Core.Path.{refl}
 use mathlib.Core.Logic.{inl, inr}
 use native.Mathlib.Omega.{arith}

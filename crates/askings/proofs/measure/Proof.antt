@@ -1,4 +1,5 @@
--- `measure` meets its promise: the four sheets over the label sheet's marks are those over the closed crossings.
+-- `measure` meets its promise: the four sheets over the label sheet's marks are those over the
+-- closed crossings.
 use mathlib.Core.Path.{refl}
 use mathlib.Core.Logic.{inl, inr}
 use native.Mathlib.Omega.{arith}

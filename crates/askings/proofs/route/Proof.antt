@@ -1,4 +1,5 @@
--- `route` meets its promise: what it hands back is the leading part of what `drive` leaves, as long as `drive` answers.
+-- `route` meets its promise: what it hands back is the leading part of what `drive` leaves, as long
+-- as `drive` answers.
 use mathlib.Core.Path.{refl}
 use native.Mathlib.Omega.{arith}
 use lib.ListN.{length-take}

@@ -1,4 +1,5 @@
--- `put_file` meets its contract: the reader refuses the file, and its number is told; or the map that it finds is shown.
+-- `put_file` meets its contract: the reader refuses the file, and its number is told; or the map
+-- that it finds is shown.
 use native.Mathlib.Omega.{arith}
 use mathlib.Core.Path.{sym}
 use lib.Seq.{length-take-le}

@@ -1,4 +1,5 @@
--- `put_line` meets its contract: five numbers stand one after the other, each where the one before ends.
+-- `put_line` meets its contract: five numbers stand one after the other, each where the one before
+-- ends.
 use Rattle.chart.specs.Promise.{number-room}
 use native.Mathlib.Omega.{arith}
 use mathlib.Core.Path.{_≡_, _∙_}

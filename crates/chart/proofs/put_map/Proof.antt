@@ -1,4 +1,5 @@
--- `put_map` meets its contract: the sheet is stamped and labelled, and the first line and the picture follow each other in the output.
+-- `put_map` meets its contract: the sheet is stamped and labelled, and the first line and the
+-- picture follow each other in the output.
 use Rattle.chart.specs.Promise.{line-room}
 use native.Mathlib.Omega.{arith}
 use Prim.Native.Nat.{_+_, _*_, _≤_}

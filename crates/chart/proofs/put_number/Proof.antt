@@ -1,4 +1,5 @@
--- `put_number` meets its contract: as many digits as the number is printed with stand in their own part of the output, and the byte behind them.
+-- `put_number` meets its contract: as many digits as the number is printed with stand in their own
+-- part of the output, and the byte behind them.
 use Rattle.chart.specs.Promise.{most-printed}
 use Prim.Native.Nat.{ℕ, _+_, _-_, _<_, _≤_}
 use native.Mathlib.Omega.{arith}

@@ -1,5 +1,5 @@
--- `fill` meets its promise. What `region` finds settles the first two refusals, the route's length the third, and the drive that is written is
--- the chooser's.
+-- `fill` meets its promise. What `region` finds settles the first two refusals, the route's length
+-- the third, and the drive that is written is the chooser's.
 use native.Mathlib.Omega.{arith}
 use Rattle.drives.proofs.RouteLaws.{dist-small}
 use Rattle.drives.proofs.Making.{makes-closed, makes-none, made-sheet, made-drive, makes-short, makes-drive}

@@ -1,4 +1,5 @@
--- `area` meets its contract: a map within the limits has a product within the limit's square. Assumes nothing.
+-- `area` meets its contract: a map within the limits has a product within the limit's square.
+-- Assumes nothing.
 use mathlib.Core.Path.{refl}
 use native.Mathlib.Omega.{arith}
 use Rattle.field.specs.Limits.{most-crossings-is, crossings-few}

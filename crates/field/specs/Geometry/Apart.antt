@@ -1,5 +1,6 @@
--- Any two groups are at least three hops apart: two closed crossings at most two hops apart are neighbours, or have a crossing between them, which
--- has two closed neighbours and so is closed. How far two groups are apart is read off their rectangles.
+-- Any two groups are at least three hops apart: two closed crossings at most two hops apart are
+-- neighbours, or have a crossing between them, which has two closed neighbours and so is closed.
+-- How far two groups are apart is read off their rectangles.
 use mathlib.Core.Path.{_≡_, refl, sym}
 use mathlib.Core.Logic.{_↔_}
 use Prim.Native.Nat.{ℕ, _≤_}

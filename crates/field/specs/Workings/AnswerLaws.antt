@@ -1,5 +1,5 @@
--- The hop call's tests on a sheet of the closed crossings: each tells whether its hop is permitted, every permitted hop is one of theirs, and so
--- the answer made of them is the answer.
+-- The hop call's tests on a sheet of the closed crossings: each tells whether its hop is permitted,
+-- every permitted hop is one of theirs, and so the answer made of them is the answer.
 use mathlib.Core.Path.{_≡_, refl, sym, _∙_}
 use mathlib.Core.Bool.{Bool, true, false, true≢false}
 use mathlib.Core.List.{List}
@@ -72,7 +72,8 @@ module _ (w h : ℕ) (C : ℕ → ℕ → Type 0) (s : List ℕ) (D : Draws w h 
       go false true p q = just x (hopTo y hy) (north-south-permitted .1 q) (column-alone p) refl
       go false false p q = at-home (home p q (Dec·and (ℕ-discrete x hx) (ℕ-discrete y hy))) refl
 
-  -- Where some hop is permitted unless the place is home, the answer names the hops that the tests tell.
+  -- Where some hop is permitted unless the place is home, the answer names the hops that the tests
+  -- tell.
   pub hop-looks : (Apart x y hx hy → (a : ℕ) × (b : ℕ) × Permitted w h C hx hy x y a b)
       → (r : HopAnswer) → (Answers w h C hx hy x y r ↔ r ≡ hopOf s w h hx hy x y)
   hop-looks some r = only (Answers w h C hx hy x y) (hopOf s w h hx hy x y) (answer-of some) (λ r r′. answers-one) r

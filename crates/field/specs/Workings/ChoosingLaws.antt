@@ -1,5 +1,6 @@
--- The chooser's workings agree with its meaning. Two tests tell whether the hop along the row and the hop along the column are candidates; in the
--- region, and not at d, at least one is, and what the tests choose is the choice.
+-- The chooser's workings agree with its meaning. Two tests tell whether the hop along the row and
+-- the hop along the column are candidates; in the region, and not at d, at least one is, and what
+-- the tests choose is the choice.
 use mathlib.Core.Path.{_≡_, refl, sym, subst₂, subst₃}
 use mathlib.Core.Bool.{Bool, true, false, cond, false≢true}
 use mathlib.Core.List.{List}
@@ -80,7 +81,8 @@ module _ (w h : ℕ) (C : ℕ → ℕ → Type 0) (sx sy dx dy : ℕ) where
       go (by-row k s t) = false≢true (p .0 k)
       go (by-column k s t) = false≢true (q .0 k)
 
-  -- The test for a hop towards d that is there exactly if p is not q: u tells whether it leads into the region.
+  -- The test for a hop towards d that is there exactly if p is not q: u tells whether it leads into
+  -- the region.
   hop-test : {x y a b : ℕ} (p q : ℕ) → (¬ (p ≡ q) → Toward dx dy x y a b) → (Toward dx dy x y a b → ¬ (p ≡ q)) → (u : Bool)
       → (InRegion w h C sx sy dx dy a b ↔ u ≡ true) → (Candidate w h C sx sy dx dy x y a b ↔ cond (eqb p q) false u ≡ true)
   hop-test p q f t u i = (

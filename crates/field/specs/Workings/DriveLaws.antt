@@ -1,5 +1,6 @@
--- Laws of drives. A hop brings a cart at most one nearer, so a drive has at least as many hops as the distance; drives join, turn round and
--- split; and a shortest drive joined, turned or split gives shortest drives.
+-- Laws of drives. A hop brings a cart at most one nearer, so a drive has at least as many hops as
+-- the distance; drives join, turn round and split; and a shortest drive joined, turned or split
+-- gives shortest drives.
 use mathlib.Core.Path.{_≡_, refl, sym, subst, subst₂, ap}
 use mathlib.Core.List.{List, [], _∷_, _++_, reverseAux, reverse}
 use mathlib.Core.Logic.{_↔_}
@@ -25,7 +26,8 @@ module _ (w h : ℕ) (C : ℕ → ℕ → Type 0) where
   drive-list : {dx dy x y : ℕ} {l m : List ℕ} → l ≡ m → Drive w h C dx dy x y l → Drive w h C dx dy x y m
   drive-list {dx} {dy} {x} {y} e v = subst (λ (k : List ℕ). Drive w h C dx dy x y k) e v
 
-  -- A drive's first crossing and its last are open, and its list begins with the one and ends with the other.
+  -- A drive's first crossing and its last are open, and its list begins with the one and ends with
+  -- the other.
   pub drive-open : {dx dy x y : ℕ} {l : List ℕ} → Drive w h C dx dy x y l → Open w h C x y
   drive-open (last p q o e) = o
   drive-open (next o n v e) = o
@@ -68,7 +70,8 @@ module _ (w h : ℕ) (C : ℕ → ℕ → Type 0) where
   pub drive-turned : {dx dy x y : ℕ} {l : List ℕ} → Drive w h C dx dy x y l → Drive w h C x y dx dy (reverse l)
   drive-turned v = turned-onto v [] (last refl refl (drive-open v) refl)
 
--- A drive split at its crossing i, which is (a, b): the crossing ends the first part and begins the second.
+-- A drive split at its crossing i, which is (a, b): the crossing ends the first part and begins the
+-- second.
 pub record Split (w h : ℕ) (C : ℕ → ℕ → Type 0) (dx dy x y : ℕ) (l : List ℕ) (i : ℕ) : Type 0 where
   pub a : ℕ
   pub b : ℕ
@@ -98,7 +101,8 @@ module _ (w h : ℕ) (C : ℕ → ℕ → Type 0) where
   drive-split (next o n v e) zero b = split-here e (next o n v e)
   drive-split (next o n v e) (suc i) b = split-later i o n e (drive-split v i (omega (arith, ap length e)))
 
--- How a shortest drive from (x, y) to (dx, dy) begins: it is there, or it hops to a neighbour one hop nearer, which has a shortest drive.
+-- How a shortest drive from (x, y) to (dx, dy) begins: it is there, or it hops to a neighbour one
+-- hop nearer, which has a shortest drive.
 pub data FirstHop (w h : ℕ) (C : ℕ → ℕ → Type 0) (x y dx dy : ℕ) : Type 0 where
   there : Open w h C x y → x ≡ dx → y ≡ dy → FirstHop w h C x y dx dy
   hop : (a b : ℕ) → Open w h C x y → Near x y a b → dist a b dx dy + 1 ≡ dist x y dx dy → HasDrive w h C a b dx dy → FirstHop w h C x y dx dy

@@ -1,4 +1,5 @@
--- Working: the label sheet, from a sheet of the rocks; and that it is the label sheet, the only one there is.
+-- Working: the label sheet, from a sheet of the rocks; and that it is the label sheet, the only one
+-- there is.
 use mathlib.Core.Path.{_≡_, sym, _∙_}
 use mathlib.Core.Bool.{Bool, true, cond}
 use mathlib.Core.List.{List}

@@ -1,4 +1,5 @@
--- A row of a table that passes its test holds: each test is made of workings, and each working agrees with its meaning.
+-- A row of a table that passes its test holds: each test is made of workings, and each working
+-- agrees with its meaning.
 use mathlib.Core.Path.{_≡_, sym, subst, _∙_}
 use mathlib.Core.Bool.{Bool, true, _||_, false≢true}
 use mathlib.Core.List.{List, [], _∷_}
@@ -114,7 +115,8 @@ module _ (rocks : List Place) where
   unfolding passes
   not-assured-holds hx hy x y e a = false≢true (sym (not-true _ e) ∙ assured-looks wide high C c closed-draw hx hy x y .0 a)
 
-  -- A place that is assured has a permitted hop unless it is home, and so the tests tell the answer.
+  -- A place that is assured has a permitted hop unless it is home, and so the tests tell the
+  -- answer.
   hop-holds : (hx hy x y : ℕ) (answer : HopAnswer) → passes (hop rocks hx hy x y answer) ≡ true → Holds (hop rocks hx hy x y answer)
   unfolding passes
   hop-holds hx hy x y answer e =

@@ -1,5 +1,6 @@
--- A test for each kind of row of a table, which the checker computes; beside the small tests of which they are made stands what
--- those tell. That a row which passes its test holds is proved in RowLaws.
+-- A test for each kind of row of a table, which the checker computes; beside the small tests of
+-- which they are made stands what those tell. That a row which passes its test holds is proved in
+-- RowLaws.
 use mathlib.Core.Path.{_≡_, refl}
 use mathlib.Core.Bool.{Bool, true, false, not, _&&_, _||_, false≢true}
 use mathlib.Core.List.{List, [], _∷_}

@@ -1,4 +1,5 @@
--- A table whose rows all pass their tests holds, row by row. To unfold the test of a table is to unfold every working that it computes with.
+-- A table whose rows all pass their tests holds, row by row. To unfold the test of a table is to
+-- unfold every working that it computes with.
 use mathlib.Core.Path.{_≡_}
 use mathlib.Core.Bool.{Bool, true, _&&_}
 use mathlib.Core.List.{List, [], _∷_}

@@ -1,5 +1,6 @@
--- Laws of tests and of what they tell, which say nothing of maps: a test's answer as a number, tests joined by "and" and "or", a choice that a
--- test makes, a test that decides, a thing of which there is one.
+-- Laws of tests and of what they tell, which say nothing of maps: a test's answer as a number,
+-- tests joined by "and" and "or", a choice that a test makes, a test that decides, a thing of which
+-- there is one.
 use mathlib.Core.Path.{_≡_, refl, sym, subst, ap}
 use mathlib.Core.Bool.{Bool, true, false, cond, _&&_, _||_, false≢true}
 use mathlib.Core.Logic.{_⊎_, inl, inr, _↔_, _≢_}

@@ -1,4 +1,5 @@
--- `header` meets its contract: the three parts that it reads make a header, and where one of them is missing there is none.
+-- `header` meets its contract: the three parts that it reads make a header, and where one of them
+-- is missing there is none.
 use Rattle.header.proofs.Heading.{
   gap-ends,
   gap-missing,

@@ -1,5 +1,5 @@
--- `bodkin_clear` meets its contract: a walk of its code by hand. The list is lent as `&` to `seek`, the refusal is told, and where there is none the list is
--- lent on to `records::clear`.
+-- `bodkin_clear` meets its contract: a walk of its code by hand. The list is lent as `&` to `seek`,
+-- the refusal is told, and where there is none the list is lent on to `records::clear`.
 use Rattle.walks.specs.Prelude.{true, false, _≡_, refl, List, [], _∷_, none, some as held, ℕ, _<_, _^_, URA, fullShare, length, lit<, named, w8, w16, w64, Val, vint, SProp, ent}
 use Rattle.walks.specs.Prelude.{emp, id⊢, Lft, Share, GName, ftrue, flft, Memory, Routine, Heap, WpFn, Tables, Atoms, Fun, factI, givenOf, tables, tablesOf, fmOf, Given, Item, ‵, _⊛_, ⋆}
 use Rattle.walks.specs.Prelude.{_$_, _∵_, !, qed, by, move, split, join, look, init, stop, from, lit, bin, and-then, no-more, land, returns, agg, owns, uint-vals, uint-tells, uint-makes, u16}

@@ -1,4 +1,5 @@
--- `bodkin_drive` meets its promise: the walk of every asking that judges other sheets too (`Walking.antt`), at its form.
+-- `bodkin_drive` meets its promise: the walk of every asking that judges other sheets too
+-- (`Walking.antt`), at its form.
 use Rattle.walks.specs.Prelude.{refl, [], _∷_, w64, emp, factI, givenOf, tables, tablesOf, tripleOf, entered, cited, Form, Promised, value, sheet, u8, u16, cell, u32}
 use Rattle.walks.specs.Prelude.{at, true, _↔_, _≡_, length, id⊢, beside}
 use Rattle.layer.proofs.Walking.{prepare-known, asks-judging}

@@ -1,5 +1,5 @@
--- `bodkin_enter` meets its contract: a walk of its code by hand. The list is lent as `&` to `seek`, the refusal is told, and where there is none the list is
--- lent on to `records::enter`.
+-- `bodkin_enter` meets its contract: a walk of its code by hand. The list is lent as `&` to `seek`,
+-- the refusal is told, and where there is none the list is lent on to `records::enter`.
 use Rattle.walks.specs.Prelude.{true, false, _≡_, refl, sym, subst, List, [], _∷_, none, some as held, ℕ, _<_, _^_, URA, fullShare, length, lit<, named, w8, w16, w64, Val, vint}
 use Rattle.walks.specs.Prelude.{SProp, ent, emp, id⊢, Lft, Share, GName, ftrue, flft, Memory, Routine, Heap, WpFn, Tables, Atoms, Fun, factI, givenOf, tables, tablesOf, fmOf, Given, Item, ‵}
 use Rattle.walks.specs.Prelude.{_⊛_, ⋆, _$_, _∵_, !, qed, by, move, split, join, look, init, stop, from, lit, of-opd, bin, and-then, no-more, land, returns, agg, owns, uint-vals}

@@ -1,4 +1,5 @@
--- `bodkin_hop` meets its promise: the walk of every asking that judges no sheet but the label sheet (`Walking.antt`), at its form.
+-- `bodkin_hop` meets its promise: the walk of every asking that judges no sheet but the label sheet
+-- (`Walking.antt`), at its form.
 use Rattle.walks.specs.Prelude.{refl, [], _∷_, w64, emp, factI, givenOf, tables, tablesOf, tripleOf, entered, cited, Form, Promised, value, at}
 use Rattle.layer.proofs.Walking.{prepare-known, asks-plainly}
 use denote.Struct.Laws as LL

@@ -1,4 +1,5 @@
--- `bodkin_label` meets its promise: the walk of every asking that judges no sheet but the label sheet (`Walking.antt`), at its form.
+-- `bodkin_label` meets its promise: the walk of every asking that judges no sheet but the label
+-- sheet (`Walking.antt`), at its form.
 use Rattle.walks.specs.Prelude.{refl, [], _∷_, w64, emp, factI, givenOf, tables, tablesOf, tripleOf, entered, cited, Form, Promised, value}
 use Rattle.layer.proofs.Walking.{prepare-known, asks-plainly}
 use Rattle.layer.proofs.Asking.{no-place}

@@ -1,4 +1,5 @@
--- `bodkin_measure` meets its promise: the walk of every asking that judges other sheets too (`Walking.antt`), at its form.
+-- `bodkin_measure` meets its promise: the walk of every asking that judges other sheets too
+-- (`Walking.antt`), at its form.
 use Rattle.walks.specs.Prelude.{refl, [], _∷_, w64, emp, factI, givenOf, tables, tablesOf, tripleOf, entered, cited, Form, Promised, value, u8, w8, vint, uint-tells}
 use Rattle.walks.specs.Prelude.{sheet, true, _↔_, _≡_, length, id⊢, beside}
 use Rattle.layer.proofs.Walking.{prepare-known, asks-judging}

@@ -1,5 +1,5 @@
--- `seek` meets its contract: a walk of its code by hand. The list is lent to `well_formed`, and where it is good to `place_of`; then the marker that
--- stands in the id's place is read.
+-- `seek` meets its contract: a walk of its code by hand. The list is lent to `well_formed`, and
+-- where it is good to `place_of`; then the marker that stands in the id's place is read.
 use Rattle.walks.specs.Prelude.{marker-size, Bool, true, false, _↔_, _≡_, refl, List, [], _∷_, none, some as held, ℕ, _*_, _<_, _^_, arith, URA, length, lit<, leb→le, nleb→lt, named, w8, w16}
 use Rattle.walks.specs.Prelude.{w64, Val, vint, vbool, SProp, ent, emp, id⊢, Lft, Share, GName, ftrue, flft, Memory, Routine, Heap, WpFn, Tables, Atoms, Fun, factI, givenOf, tables, tablesOf}
 use Rattle.walks.specs.Prelude.{fmOf, Given, Item, ‵, _⊛_, ⋆, _$_, _∵_, !, qed, move, split, join, look, look-raw, init, stop, hop, from, load, lit, of-opd, bin, and-then}

@@ -1,4 +1,5 @@
--- Every list that entering and clearing reach from a well-formed one is well formed: each step keeps it so. One with nothing in use is.
+-- Every list that entering and clearing reach from a well-formed one is well formed: each step
+-- keeps it so. One with nothing in use is.
 use mathlib.Core.Path.{_≡_, sym, subst}
 use mathlib.Core.List.{List}
 use Prim.Native.Nat.{ℕ}

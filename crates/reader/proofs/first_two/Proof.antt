@@ -1,4 +1,5 @@
--- `first_two` meets its contract: each test compares with one format's letters, and a file with neither's begins with none.
+-- `first_two` meets its contract: each test compares with one format's letters, and a file with
+-- neither's begins with none.
 use borrow.Author.Needs.{needs}
 use Rattle.mapfile.specs.File.{plain, raw}
 use Rattle.reader.proofs.FirstTwo.{same-letters, letters-neither, names-plain, names-raw, names-neither}

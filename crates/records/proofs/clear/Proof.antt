@@ -1,4 +1,5 @@
--- `clear` meets its contract: a walk of its code by hand. The loop keeps Closing, and ends since the id is in use: it stands at k or below it.
+-- `clear` meets its contract: a walk of its code by hand. The loop keeps Closing, and ends since
+-- the id is in use: it stands at k or below it.
 use Rattle.walks.specs.Prelude.{marker-size, not, _≡_, refl, subst, _∙_, List, [], _∷_, _++_, none, some as held, ℕ, _+_, _-_, _*_, _<_, _≤_, _^_, arith, URA, fullShare, length, set, length-set}
 use Rattle.walks.specs.Prelude.{T as Holds, eqb, eqb→eq, eqb-refl, T-not, named, w16, w64, Val, vint, SProp, ent, Lft, Share, GName, ftrue, flft, Memory, Routine, Heap, WpFn, Tables, Atoms, Fun}
 use Rattle.walks.specs.Prelude.{givenOf, tables, tablesOf, Given, Item, ‵, _⊛_, ⋆, Sq, _$_, _∵_, !, qed, move, split, join, fsplit, fjoin, frame, suffices, done, look, look-raw, init}

@@ -1,4 +1,5 @@
--- `enter` meets its contract: a walk of its code by hand. The loop keeps Opening, and what is put in the free slot enters the marker.
+-- `enter` meets its contract: a walk of its code by hand. The loop keeps Opening, and what is put
+-- in the free slot enters the marker.
 use Rattle.walks.specs.Prelude.{marker-size, _≡_, refl, sym, ap, _∙_, List, [], _∷_, _++_, none, some as held, ℕ, _+_, _-_, _*_, _<_, _≤_, _^_, arith, URA, fullShare, length, set, length-set}
 use Rattle.walks.specs.Prelude.{ltb→lt, nltb→le, lit<, named, w64, Val, vint, SProp, ent, Lft, Share, GName, ftrue, flft, Memory, Routine, Heap, WpFn, Tables, Atoms, Fun, givenOf, tables, tablesOf}
 use Rattle.walks.specs.Prelude.{Given, Item, ‵, _⊛_, ⋆, Sq, _$_, _∵_, !, qed, move, split, join, fsplit, fjoin, frame, suffices, done, look, look-raw, init, store, store-raw, forget}

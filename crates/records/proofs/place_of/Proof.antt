@@ -1,4 +1,5 @@
--- `place_of` meets its contract: a walk of its code by hand. The loop keeps Placing, and the middle lies from lo on and below hi, so that the two close up.
+-- `place_of` meets its contract: a walk of its code by hand. The loop keeps Placing, and the middle
+-- lies from lo on and below hi, so that the two close up.
 use Rattle.walks.specs.Prelude.{marker-size, _≡_, refl, List, [], _∷_, _++_, none, some as held, ℕ, _+_, _-_, _*_, _/_, _<_, _≤_, _^_, arith, URA, length, ltb→lt, nltb→le, lit<, named, w16}
 use Rattle.walks.specs.Prelude.{w64, Val, vint, SProp, ent, Lft, Share, GName, ftrue, flft, Memory, Routine, Heap, WpFn, Tables, Atoms, Fun, givenOf, tables, tablesOf, Given, Item, ‵, _⊛_}
 use Rattle.walks.specs.Prelude.{⋆, Sq, _$_, _∵_, !, qed, move, split, join, fsplit, fjoin, frame, suffices, done, look, init, store, forget, stop, hop, fld, from, load, lit}

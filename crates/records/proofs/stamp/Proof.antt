@@ -1,4 +1,5 @@
--- `stamp` meets its contract: a walk of its code by hand. The sheet is lent to `wipe`, and in each turn to `mark`; the loop keeps Stamping.
+-- `stamp` meets its contract: a walk of its code by hand. The sheet is lent to `wipe`, and in each
+-- turn to `mark`; the loop keeps Stamping.
 use Rattle.walks.specs.Prelude.{marker-size, _≡_, refl, sym, ap, subst, _∙_, List, [], _∷_, _++_, none, some as held, ℕ, _+_, _-_, _*_, _<_, _≤_, _^_, zero-le, arith, URA, fullShare, length}
 use Rattle.walks.specs.Prelude.{set, ltb→lt, nltb→le, lit<, named, w8, w64, Val, vint, vunit, SProp, ent, emp, id⊢, Lft, Share, GName, ftrue, flft, Memory, Routine, Heap, WpFn, Tables}
 use Rattle.walks.specs.Prelude.{Atoms, Fun, fact, factI, givenOf, tables, tablesOf, fmOf, Given, Item, ‵, raw, _⊛_, ⋆, Sq, _$_, _∵_, !, qed, by, move, keep, use2, split}

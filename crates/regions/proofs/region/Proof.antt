@@ -1,5 +1,5 @@
--- `region` meets its promise. What stands at an end tells whether it is open; the two passes make the region sheet; and what stands there at s
--- tells whether there is a shortest drive.
+-- `region` meets its promise. What stands at an end tells whether it is open; the two passes make
+-- the region sheet; and what stands there at s tells whether there is a shortest drive.
 use mathlib.Core.Logic.{inl, inr}
 use Rattle.regions.proofs.Finding.{finds-closed, finds-none, finds-some}
 use Rattle.regions.proofs.RegionMade.{region-made, end-closed, end-open, no-way, some-way}

@@ -1,6 +1,6 @@
--- `drive` meets its contract: a walk of its code by hand. The one marker is put in a local array, which is lent as a
--- list to `route::drive`; what is lent beside it is lent on. The part of the route that is handed back is owned, and
--- is handed on once the list has been taken back.
+-- `drive` meets its contract: a walk of its code by hand. The one marker is put in a local array,
+-- which is lent as a list to `route::drive`; what is lent beside it is lent on. The part of the
+-- route that is handed back is owned, and is handed on once the list has been taken back.
 use mathlib.Core.Bool.{true, false}
 use mathlib.Core.Path.{_≡_, refl}
 use mathlib.Core.List.{List, [], _∷_}
@@ -144,7 +144,8 @@ module _ {M : Type 1} (𝓤 : URA M) (H : Heap 𝓤) (A : Atoms 𝓤) (W : Given
         called-owning ! (fmOf 𝓤 H (W .laws) 𝓣) asked.ended AskedC known-asked (to-asked b ν δ) (‵ (flft (ν ∷ []) fullShare) ⊛ handed) refl spelled (mut-slice-tells (named 2) κ₃ u16)
         (λ _ _. _) (λ _ _. refl)
         (and-then ! (var ! 16 refl) (and-then ! (lit ! tt) (and-then ! (var ! 4 refl) (and-then ! (var ! 5 refl) (and-then ! (var ! 6 refl) (and-then ! (var ! 7 refl) (and-then ! (var ! 8 refl) (and-then ! (var ! 9 refl) (and-then ! (var ! 18 refl) (and-then ! (var ! 20 refl) (and-then ! (var ! 22 refl) (and-then ! (var ! 23 refl) (and-then ! (var ! 24 refl) (no-more !))))))))))))))
-        -- the list is taken back. [the part; the tokens; what is said of the others; the list, lent; the locals]
+        -- the list is taken back. [the part; the tokens; what is said of the others; the list,
+        -- lent; the locals]
         (λ part ws answer is. move ! (1 ∷ []) $ split ! $ move ! (0 ∷ 4 ∷ []) $ row-shown ! tt T.the-row b 0 (rock ∷ []) ν $
         use1 W (‵ (froom mir-one b 0)) (room-again 𝓤 H A W b rock) $
         move ! (2 ∷ 1 ∷ 3 ∷ 4 ∷ 5 ∷ 6 ∷ 7 ∷ 8 ∷ 9 ∷ 10 ∷ 11 ∷ 12 ∷ 13 ∷ 14 ∷ 15 ∷ 16 ∷ 0 ∷ []) $

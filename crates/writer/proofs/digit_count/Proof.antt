@@ -1,4 +1,5 @@
--- `digit_count` meets its contract: n digits are told, and the rest is what stands before them. Each digit more is needed, as there was a rest.
+-- `digit_count` meets its contract: n digits are told, and the rest is what stands before them.
+-- Each digit more is needed, as there was a rest.
 use Prim.Native.Nat.{ℕ, _+_, _*_, _-_, _/_, _^_, _<_, _≤_}
 use native.Mathlib.Omega.{arith}
 use native.Mathlib.Nat.{pow-suc, one-le-pow, div-lt-iff-lt-mul, le-div-iff-mul-le, div-div-eq-div-mul}

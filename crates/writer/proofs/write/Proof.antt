@@ -1,4 +1,5 @@
--- `write` meets its promise: header and rows fill the output from the front, and together they are the file.
+-- `write` meets its promise: header and rows fill the output from the front, and together they are
+-- the file.
 use Prim.Native.Nat.{ℕ, _+_, _*_, _-_, _/_, _≤_}
 use native.Mathlib.Omega.{arith}
 use native.Mathlib.Nat.{mul-le-mul-left}

@@ -1,4 +1,5 @@
--- `look::after` meets its contract: on the way, and within the map, no sum wraps and no difference goes below 0.
+-- `look::after` meets its contract: on the way, and within the map, no sum wraps and no difference
+-- goes below 0.
 use native.Mathlib.Omega.{arith}
 use borrow.Author.Needs.{needs}
 use Rattle.field.specs.Map.{side}

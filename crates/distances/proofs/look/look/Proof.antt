@@ -1,4 +1,5 @@
--- `look::look` meets its contract, whatever the way. The invariant: nothing is marked on the first k hops, and they are no more than reach the edge.
+-- `look::look` meets its contract, whatever the way. The invariant: nothing is marked on the first
+-- k hops, and they are no more than reach the edge.
 use Prim.Native.Nat.{_+_, _-_, _≤_}
 use native.Mathlib.Omega.{arith}
 use borrow.Author.Needs.{needs}

@@ -1,5 +1,5 @@
--- `bodkin_read` meets its contract: a walk of its code by hand. A local array is lent to `read_bits` and shown to `put`; what these two promise is the
--- call's promise.
+-- `bodkin_read` meets its contract: a walk of its code by hand. A local array is lent to
+-- `read_bits` and shown to `put`; what these two promise is the call's promise.
 use Rattle.walks.specs.Prelude.{_≡_, refl, sym, ap, _∙_, true, false, List, [], _∷_, none, some as held, ℕ, _*_, _<_, _≤_, _^_, arith, URA, fullShare, length, take, lit<, named}
 use Rattle.walks.specs.Prelude.{w8, w64, Val, vint, vunit, SProp, ent, emp, Lft, Share, GName, ftrue, flft, Memory, Routine, Heap, WpFn, Tables, Atoms, Fun, factI, givenOf, tables, tablesOf}
 use Rattle.walks.specs.Prelude.{fmOf, Given, Item, ‵, _⊛_, ⋆, _$_, _∵_, !, qed, move, split, join, fsplit, look, init, stop, hop, fld, from, of-opd, addr, and-then, no-more}

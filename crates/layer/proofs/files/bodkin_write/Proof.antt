@@ -1,5 +1,6 @@
--- `bodkin_write` meets its contract: a walk of its code by hand. The front of a local array, of the map's size, is lent to `prepare` and shown to
--- `write_stamped`; what these two promise is the call's promise.
+-- `bodkin_write` meets its contract: a walk of its code by hand. The front of a local array, of the
+-- map's size, is lent to `prepare` and shown to `write_stamped`; what these two promise is the
+-- call's promise.
 use Rattle.walks.specs.Prelude.{_≡_, refl, sym, ap, subst, _∙_, true, false, List, [], _∷_, _++_, none, some as held, ℕ, _*_, _<_, _≤_, _^_, arith, URA, fullShare, length, take}
 use Rattle.walks.specs.Prelude.{drop as past, length-append, length-drop, lit<, named, w8, w64, Val, vint, vbool, SProp, ent, emp, id⊢, Lft, Share, GName, ftrue, flft, Memory, Routine, Heap, WpFn, Tables}
 use Rattle.walks.specs.Prelude.{Atoms, Fun, factI, givenOf, tables, tablesOf, fmOf, Given, Item, ‵, raw, _⊛_, ⋆, _$_, _∵_, !, qed, move, use0, split, join, fsplit, look, init}

@@ -1,5 +1,5 @@
--- `put` meets its contract: a walk of its code by hand. After k turns the first k slots hold the markers, k rocks are passed, and the other slots are as
--- they were.
+-- `put` meets its contract: a walk of its code by hand. After k turns the first k slots hold the
+-- markers, k rocks are passed, and the other slots are as they were.
 use Rattle.walks.specs.Prelude.{marker-size, _≡_, refl, ap, _∙_, true, false, List, [], _∷_, none, some as held, ℕ, _+_, _-_, _*_, _<_, _≤_, _^_, zero-le, arith, URA, fullShare, length, set}
 use Rattle.walks.specs.Prelude.{take, ltb→lt, nltb→le, lit<, named, w64, Val, vint, vunit, SProp, ent, emp, Lft, Share, GName, ftrue, flft, Memory, Routine, Heap, WpFn, Tables, Atoms, Fun}
 use Rattle.walks.specs.Prelude.{factI, givenOf, tables, tablesOf, fmOf, Given, Item, ‵, _⊛_, ⋆, Sq, _$_, _∵_, !, qed, move, split, join, rewrite, look, init, store, store-raw, forget}

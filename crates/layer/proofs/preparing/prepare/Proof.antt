@@ -1,5 +1,5 @@
--- `prepare` meets its contract: a walk of its code by hand. The list is lent to `well_formed`, the lowest refusal is told, and where there is none the
--- list and the sheet are lent to `stamp`.
+-- `prepare` meets its contract: a walk of its code by hand. The list is lent to `well_formed`, the
+-- lowest refusal is told, and where there is none the list and the sheet are lent to `stamp`.
 use Rattle.walks.specs.Prelude.{Bool, true, false, _↔_, _≡_, refl, subst, List, [], _∷_, some as held, ℕ, _<_, _^_, URA, fullShare, length, lit<, named, w8, w64, Val, vint, vbool}
 use Rattle.walks.specs.Prelude.{vunit, SProp, ent, emp, id⊢, Lft, Share, GName, ftrue, flft, Memory, Routine, Heap, WpFn, Tables, Atoms, Fun, factI, givenOf, tables, tablesOf, fmOf, Given, Item}
 use Rattle.walks.specs.Prelude.{‵, _⊛_, ⋆, _$_, _∵_, !, qed, by, move, split, join, look, init, stop, from, lit, of-opd, bin, and-then, no-more, land, returns, owns, uint-vals}

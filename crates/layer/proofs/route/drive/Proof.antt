@@ -1,4 +1,5 @@
--- `route::drive` meets its promise: the walk of every asking that judges other sheets too (`Walking.antt`), at its form.
+-- `route::drive` meets its promise: the walk of every asking that judges other sheets too
+-- (`Walking.antt`), at its form.
 use Rattle.walks.specs.Prelude.{refl, [], _∷_, w64, emp, factI, givenOf, tables, tablesOf, tripleOf, entered, cited, Form, Promised, part, u16, sheet, u8, spent, cell}
 use Rattle.walks.specs.Prelude.{u32, at, true, _↔_, _≡_, length, id⊢, beside}
 use Rattle.layer.proofs.Walking.{prepare-known, asks-judging}
