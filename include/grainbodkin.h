@@ -1,12 +1,16 @@
 /*
  * Grainbodkin: the obstacle layer for carts on a grid of crossings.
  *
- * The eleven calls of the static library, target/staticlib/liblayer.a. Each call answers by the lowest refusal that applies, or succeeds: for every
- * value of every number and every content of every buffer. What C cannot let a callee check is the caller's part: a pointer stands before its length
- * and points to so many elements, aligned for their type; what a call may write overlaps nothing else that is lent to the same call. A pointer is not
- * null, even where its length is 0. There is room on the stack: docs/INTEGRATORS.md tells how much each call takes, at most 25,600 bytes.
+ * The eleven calls of the static library, target/staticlib/liblayer.a. Each call answers by the
+ * lowest refusal that applies, or succeeds: for every value of every number and every content of
+ * every buffer. What C cannot let a callee check is the caller's part: a pointer stands before its
+ * length and points to so many elements, aligned for their type; what a call may write overlaps
+ * nothing else that is lent to the same call. A pointer is not null, even where its length is 0.
+ * There is room on the stack, BODKIN_STACK bytes below the caller; docs/INTEGRATORS.md tells how
+ * much each call takes.
  *
- * A crossing is (x, y), x rising to the east from 0, y rising to the north from 0. Its number is y * width + x. Sheets and routes go by number.
+ * A crossing is (x, y), x rising to the east from 0, y rising to the north from 0. Its number is
+ * y * width + x. Sheets and routes go by number.
  */
 #ifndef GRAINBODKIN_H
 #define GRAINBODKIN_H
@@ -15,14 +19,35 @@
 #include <stddef.h>
 #include <stdint.h>
 
+/* An answer that is dropped is a refusal that goes unseen, so the compiler warns of it. */
+#if (defined(__cplusplus) && __cplusplus >= 201703L) || \
+    (defined(__STDC_VERSION__) && __STDC_VERSION__ >= 202311L)
+#define BODKIN_ANSWER [[nodiscard]]
+#elif defined(__GNUC__)
+#define BODKIN_ANSWER __attribute__((warn_unused_result))
+#else
+#define BODKIN_ANSWER
+#endif
+
 #ifdef __cplusplus
 extern "C" {
 #endif
 
-/* The limits: width and height of a map, markers in use, and the byte that stands for no distance. */
+/* The limits: width and height of a map, markers in use, and the byte that says no distance. */
 #define BODKIN_SIDE 64
 #define BODKIN_MARKERS 4096
 #define BODKIN_NO_DISTANCE 255
+
+/*
+ * What they come to: the bytes of the largest sheet, the crossings of the longest drive, and the
+ * bytes of the longest file that is written, "P4", LF, two digits, space, two digits, LF and rows.
+ */
+#define BODKIN_CROSSINGS (BODKIN_SIDE * BODKIN_SIDE)
+#define BODKIN_ROUTE (2 * BODKIN_SIDE - 1)
+#define BODKIN_FILE (9 + BODKIN_SIDE * ((BODKIN_SIDE + 7) / 8))
+
+/* The most bytes of stack that a call is held to below its caller. */
+#define BODKIN_STACK 9216
 
 /* A label sheet's bytes. */
 #define BODKIN_OPEN 0
@@ -32,26 +57,29 @@ extern "C" {
 /* Refusal numbers. 0 is success. */
 enum bodkin_refusal {
     BODKIN_DONE = 0,
-    BODKIN_BAD_SIZE = 1,        /* width or height is 0 or over BODKIN_SIDE */
-    BODKIN_BAD_SHEET = 2,       /* a lent sheet is not width * height bytes */
-    BODKIN_BAD_LIST = 3,        /* count over BODKIN_MARKERS or over the list lent, an id 0, ids not rising, or a marker off the map */
-    BODKIN_BAD_PLACE = 4,       /* a place or new marker off the map, or a new id of 0 */
-    BODKIN_ID_IN_USE = 5,       /* entering an id in use */
-    BODKIN_ID_NOT_IN_USE = 6,   /* clearing an id not in use */
-    BODKIN_NO_SLOT = 7,         /* count, or a file's rocks, would pass the list lent or BODKIN_MARKERS */
-    BODKIN_END_CLOSED = 8,      /* assurance, hop, region or drive asked, an end closed */
-    BODKIN_NO_DRIVE = 9,        /* region or drive asked, both ends open, no shortest drive */
-    BODKIN_SHORT_ROUTE = 10,    /* route buffer shorter than distance + 1 */
-    BODKIN_NOT_ASSURED = 11,    /* hop asked, home not assured */
-    BODKIN_BAD_LETTERS = 12,    /* first two bytes are neither P1 nor P4, or there are fewer than two */
-    BODKIN_BAD_HEADER = 13,     /* header against the rules or cut short, or a foreign byte before a P1 raster's last digit */
-    BODKIN_SHORT_RASTER = 14,   /* raster ends early */
-    BODKIN_LONG_RASTER = 15,    /* bytes after the raster (in P1: other than blanks) */
+    BODKIN_BAD_SIZE = 1,         /* width or height is 0 or over BODKIN_SIDE */
+    BODKIN_BAD_SHEET = 2,        /* a lent sheet is not width * height bytes */
+    BODKIN_BAD_LIST = 3,         /* count over BODKIN_MARKERS or over the list lent, an id 0,
+                                    ids not rising, or a marker off the map */
+    BODKIN_BAD_PLACE = 4,        /* a place or new marker off the map, or a new id of 0 */
+    BODKIN_ID_IN_USE = 5,        /* entering an id in use */
+    BODKIN_ID_NOT_IN_USE = 6,    /* clearing an id not in use */
+    BODKIN_NO_SLOT = 7,          /* count, or a file's rocks, would pass the list lent or
+                                    BODKIN_MARKERS */
+    BODKIN_END_CLOSED = 8,       /* assurance, hop, region or drive asked, an end closed */
+    BODKIN_NO_DRIVE = 9,         /* region or drive asked, both ends open, no shortest drive */
+    BODKIN_SHORT_ROUTE = 10,     /* route buffer shorter than distance + 1 */
+    BODKIN_NOT_ASSURED = 11,     /* hop asked, home not assured */
+    BODKIN_BAD_LETTERS = 12,     /* first two bytes are neither P1 nor P4, or fewer than two */
+    BODKIN_BAD_HEADER = 13,      /* header against the rules or cut short, or a foreign byte
+                                    before a P1 raster's last digit */
+    BODKIN_SHORT_RASTER = 14,    /* raster ends early */
+    BODKIN_LONG_RASTER = 15,     /* bytes after the raster (in P1: other than blanks) */
     BODKIN_SHARED_CROSSING = 16, /* two markers on one crossing, when writing */
-    BODKIN_SHORT_OUTPUT = 17    /* output too short for the whole file */
+    BODKIN_SHORT_OUTPUT = 17     /* output too short for the whole file */
 };
 
-/* A rock marker: an id, 1 to 65,535, and a crossing. Several may stand on one crossing; each is kept. */
+/* A rock marker: an id, 1 to 65,535, and a crossing. Several may stand on one; each is kept. */
 struct bodkin_marker {
     uint16_t id;
     uint16_t x;
@@ -84,7 +112,8 @@ struct bodkin_assurance {
 
 struct bodkin_homeward {
     uint8_t refusal;
-    uint8_t hops; /* 0: there; 1: (x, y); 2: (x, y), the east-west one, and (a, b). What is not named is 0. */
+    uint8_t hops; /* 0: there; 1: (x, y); 2: (x, y), the east-west one, and (a, b). What is not
+                     named is 0. */
     size_t x;
     size_t y;
     size_t a;
@@ -109,93 +138,179 @@ struct bodkin_wrote_map {
 };
 
 /*
- * Every call with a list takes `list`, its length `lent`, and `count`, how many of its slots are in use. Slots past the count are never read. Apart
- * from bodkin_enter, bodkin_clear and bodkin_read no call changes a slot.
+ * Every call with a list takes `list`, its length `lent`, and `count`, how many of its slots are in
+ * use. Slots past the count are never read. Apart from bodkin_enter, bodkin_clear and bodkin_read
+ * no call changes a slot.
+ *
+ * An id is sixteen bits wide, and C cuts a wider number silently: an `int` of 65537 clears marker
+ * 1. Where ids come as wider numbers, use bodkin_enter_wide and bodkin_clear_wide, or -Wconversion.
  */
 
 /*
- * Enters a marker: puts it at its place by id, moves the later ones up by one, and hands back the new count.
+ * Enters a marker: puts it at its place by id, moves the later ones up by one, and hands back the
+ * new count.
  * Refuses 1, 3, 4, 5 or 7; then no slot changes.
  */
-struct bodkin_counted bodkin_enter(struct bodkin_marker *list, size_t lent, size_t count, size_t width, size_t height, uint16_t id, size_t x,
-                                   size_t y);
+BODKIN_ANSWER
+struct bodkin_counted bodkin_enter(struct bodkin_marker *list, size_t lent, size_t count,
+                                   size_t width, size_t height, uint16_t id, size_t x, size_t y);
 
 /*
- * Clears the marker with this id: moves the later ones down, sets the one slot so freed to zeros, and hands back the new count.
+ * Clears the marker with this id: moves the later ones down, sets the one slot so freed to zeros,
+ * and hands back the new count.
  * Refuses 1, 3 or 6; then no slot changes.
  */
-struct bodkin_counted bodkin_clear(struct bodkin_marker *list, size_t lent, size_t count, size_t width, size_t height, uint16_t id);
+BODKIN_ANSWER
+struct bodkin_counted bodkin_clear(struct bodkin_marker *list, size_t lent, size_t count,
+                                   size_t width, size_t height, uint16_t id);
 
 /*
- * Labels the map: one byte a crossing into `labels`, and the numbers of rocks' crossings, shut crossings and groups.
+ * Labels the map: one byte a crossing into `labels`, and the numbers of rocks' crossings, shut
+ * crossings and groups.
  * Refuses 1, 2 or 3; then no byte changes.
  */
-struct bodkin_labelling bodkin_label(const struct bodkin_marker *list, size_t lent, size_t count, size_t width, size_t height, uint8_t *labels,
+BODKIN_ANSWER
+struct bodkin_labelling bodkin_label(const struct bodkin_marker *list, size_t lent, size_t count,
+                                     size_t width, size_t height, uint8_t *labels,
                                      size_t labels_len);
 
 /*
- * The four clear distances of (x, y), east, south, west, north: the hops to the nearest closed crossing that way, or BODKIN_NO_DISTANCE. At a closed
- * crossing all four are 0. The label sheet holds the labels.
+ * The four clear distances of (x, y), east, south, west, north: the hops to the nearest closed
+ * crossing that way, or BODKIN_NO_DISTANCE. At a closed crossing all four are 0. The label sheet
+ * holds the labels.
  * Refuses 1, 2, 3 or 4; then no byte changes.
  */
-struct bodkin_four bodkin_distances(const struct bodkin_marker *list, size_t lent, size_t count, size_t width, size_t height, size_t x, size_t y,
+BODKIN_ANSWER
+struct bodkin_four bodkin_distances(const struct bodkin_marker *list, size_t lent, size_t count,
+                                    size_t width, size_t height, size_t x, size_t y,
                                     uint8_t *labels, size_t labels_len);
 
 /*
- * The clear distances of the whole map, one sheet a way. The label sheet holds the labels. Answers 0.
+ * The clear distances of the whole map, one sheet a way. The label sheet holds the labels.
+ * Answers 0.
  * Refuses 1, 2 or 3; then no byte changes.
  */
-uint8_t bodkin_measure(const struct bodkin_marker *list, size_t lent, size_t count, size_t width, size_t height, uint8_t *labels, size_t labels_len,
-                       uint8_t *east, size_t east_len, uint8_t *south, size_t south_len, uint8_t *west, size_t west_len, uint8_t *north,
-                       size_t north_len);
+BODKIN_ANSWER
+uint8_t bodkin_measure(const struct bodkin_marker *list, size_t lent, size_t count, size_t width,
+                       size_t height, uint8_t *labels, size_t labels_len, uint8_t *east,
+                       size_t east_len, uint8_t *south, size_t south_len, uint8_t *west,
+                       size_t west_len, uint8_t *north, size_t north_len);
 
 /*
  * Whether home (hx, hy) is assured for the place (x, y). The label sheet holds the labels.
  * Refuses 1, 2, 3 or 4, and then no byte changes; or 8, and then the label sheet holds the labels.
  */
-struct bodkin_assurance bodkin_assured(const struct bodkin_marker *list, size_t lent, size_t count, size_t width, size_t height, size_t hx, size_t hy,
-                                       size_t x, size_t y, uint8_t *labels, size_t labels_len);
+BODKIN_ANSWER
+struct bodkin_assurance bodkin_assured(const struct bodkin_marker *list, size_t lent, size_t count,
+                                       size_t width, size_t height, size_t hx, size_t hy, size_t x,
+                                       size_t y, uint8_t *labels, size_t labels_len);
 
 /*
- * Every permitted hop from (x, y) towards home (hx, hy), the east-west one first; at home none. Whichever hops a cart takes, it is home after exactly
- * the east-west plus north-south distance. The label sheet holds the labels.
- * Refuses 1, 2, 3 or 4, and then no byte changes; or 8 or 11, and then the label sheet holds the labels.
+ * Every permitted hop from (x, y) towards home (hx, hy), the east-west one first; at home none. A
+ * cart that starts where home is assured and takes such hops, whichever it takes, is home after
+ * exactly the east-west plus north-south distance, as long as the markers stay the same on its way.
+ * The label sheet holds the labels.
+ * Refuses 1, 2, 3 or 4, and then no byte changes; or 8 or 11, and then the label sheet holds the
+ * labels.
  */
-struct bodkin_homeward bodkin_hop(const struct bodkin_marker *list, size_t lent, size_t count, size_t width, size_t height, size_t hx, size_t hy,
-                                  size_t x, size_t y, uint8_t *labels, size_t labels_len);
+BODKIN_ANSWER
+struct bodkin_homeward bodkin_hop(const struct bodkin_marker *list, size_t lent, size_t count,
+                                  size_t width, size_t height, size_t hx, size_t hy, size_t x,
+                                  size_t y, uint8_t *labels, size_t labels_len);
 
 /*
- * The region: 1 in `region` for each crossing on at least one shortest drive from (sx, sy) to (dx, dy), 0 for every other. The label sheet holds the
- * labels. Answers 0.
- * Refuses 1, 2, 3 or 4, and then no byte changes; or 8 or 9, and then the label sheet holds the labels, and the region sheet is unchanged at 8 and all
- * 0 at 9.
+ * The region: 1 in `region` for each crossing on at least one shortest drive from (sx, sy) to
+ * (dx, dy), 0 for every other. The label sheet holds the labels. Answers 0.
+ * Refuses 1, 2, 3 or 4, and then no byte changes; or 8 or 9, and then the label sheet holds the
+ * labels, and the region sheet is unchanged at 8 and all 0 at 9.
  */
-uint8_t bodkin_region(const struct bodkin_marker *list, size_t lent, size_t count, size_t width, size_t height, size_t sx, size_t sy, size_t dx,
-                      size_t dy, uint8_t *labels, size_t labels_len, uint8_t *region, size_t region_len);
+BODKIN_ANSWER
+uint8_t bodkin_region(const struct bodkin_marker *list, size_t lent, size_t count, size_t width,
+                      size_t height, size_t sx, size_t sy, size_t dx, size_t dy, uint8_t *labels,
+                      size_t labels_len, uint8_t *region, size_t region_len);
 
 /*
- * A shortest drive from (sx, sy) to (dx, dy): crossing numbers at the front of `route`, s first and d last, drawn from the 32-bit `state`, which moves
- * on. The rest of the route is unchanged. The sheets hold labels and region.
- * Refuses 1, 2, 3 or 4, and then no byte changes; or 8, 9 or 10, and then the label sheet holds the labels, the region sheet is unchanged at 8, all 0 at
- * 9, the region at 10, and route and state are unchanged.
+ * A shortest drive from (sx, sy) to (dx, dy): crossing numbers at the front of `route`, s first and
+ * d last, drawn from the 32-bit `state`, which moves on. The rest of the route is unchanged. The
+ * sheets hold labels and region. A route of BODKIN_ROUTE slots is long enough for every drive.
+ * Refuses 1, 2, 3 or 4, and then no byte changes; or 8, 9 or 10, and then the label sheet holds the
+ * labels, the region sheet is unchanged at 8, all 0 at 9, the region at 10, and route and state are
+ * unchanged.
  */
-struct bodkin_drove bodkin_drive(const struct bodkin_marker *list, size_t lent, size_t count, size_t width, size_t height, size_t sx, size_t sy,
-                                 size_t dx, size_t dy, uint8_t *labels, size_t labels_len, uint8_t *region, size_t region_len, uint16_t *route,
-                                 size_t route_len, uint32_t *state);
+BODKIN_ANSWER
+struct bodkin_drove bodkin_drive(const struct bodkin_marker *list, size_t lent, size_t count,
+                                 size_t width, size_t height, size_t sx, size_t sy, size_t dx,
+                                 size_t dy, uint8_t *labels, size_t labels_len, uint8_t *region,
+                                 size_t region_len, uint16_t *route, size_t route_len,
+                                 uint32_t *state);
 
 /*
- * Reads a PBM map, P1 or P4. Its rocks become markers with ids 1, 2, 3 and on, in raster order, in the first slots; other slots stay. Hands back
- * width, height and the new count.
- * Refuses 12, then 13 in the header, 1, then at the first fault met in the raster 13, 14 or 15, then 7; no slot changes then.
+ * Reads a PBM map, P1 or P4. Its rocks become markers with ids 1, 2, 3 and on, in raster order, in
+ * the first slots; other slots stay. Hands back width, height and the new count.
+ * Refuses 12, then 13 in the header, 1, then at the first fault met in the raster 13, 14 or 15,
+ * then 7; no slot changes then.
  */
-struct bodkin_read_map bodkin_read(const uint8_t *file, size_t file_len, struct bodkin_marker *list, size_t lent);
+BODKIN_ANSWER
+struct bodkin_read_map bodkin_read(const uint8_t *file, size_t file_len, struct bodkin_marker *list,
+                                   size_t lent);
 
 /*
- * Writes the list as a PBM map, P4, and hands back the number of bytes written. Bytes past the end stay.
+ * Writes the list as a PBM map, P4, and hands back the number of bytes written, at most
+ * BODKIN_FILE. Bytes past the end stay. A file keeps neither ids nor two markers on one crossing.
  * Refuses 1, 3, 16 or 17; then no byte changes.
  */
-struct bodkin_wrote_map bodkin_write(const struct bodkin_marker *list, size_t lent, size_t count, size_t width, size_t height, uint8_t *out,
-                                     size_t out_len);
+BODKIN_ANSWER
+struct bodkin_wrote_map bodkin_write(const struct bodkin_marker *list, size_t lent, size_t count,
+                                     size_t width, size_t height, uint8_t *out, size_t out_len);
+
+/*
+ * Entering and clearing with an id of any width: one over 65,535 is refused as document 01 has it,
+ * 4 as a new id, for it is no id, and 6 when clearing, for it is not in use. Id 0 is refused so by
+ * the calls themselves, on the same occasions, and after the same lower refusals.
+ */
+BODKIN_ANSWER
+static inline struct bodkin_counted bodkin_enter_wide(struct bodkin_marker *list, size_t lent,
+                                                      size_t count, size_t width, size_t height,
+                                                      uint64_t id, size_t x, size_t y) {
+    return bodkin_enter(list, lent, count, width, height, (uint16_t)(id > UINT16_MAX ? 0 : id), x,
+                        y);
+}
+
+BODKIN_ANSWER
+static inline struct bodkin_counted bodkin_clear_wide(struct bodkin_marker *list, size_t lent,
+                                                      size_t count, size_t width, size_t height,
+                                                      uint64_t id) {
+    return bodkin_clear(list, lent, count, width, height, (uint16_t)(id > UINT16_MAX ? 0 : id));
+}
+
+/* What a refusal says, in words; of 0 "done", and of a number over 17 that it is none. */
+static inline const char *bodkin_refusal_text(uint8_t refusal) {
+    switch (refusal) {
+    case BODKIN_DONE: return "done";
+    case BODKIN_BAD_SIZE: return "width or height is 0 or over 64";
+    case BODKIN_BAD_SHEET: return "a lent sheet is not width times height bytes";
+    case BODKIN_BAD_LIST:
+        return "count over 4096 or over the list lent, an id 0, ids not rising, or a marker off "
+               "the map";
+    case BODKIN_BAD_PLACE: return "a place or new marker is off the map, or a new id is 0";
+    case BODKIN_ID_IN_USE: return "the id to enter is in use";
+    case BODKIN_ID_NOT_IN_USE: return "the id to clear is not in use";
+    case BODKIN_NO_SLOT: return "no slot: the markers would pass the list lent or 4096";
+    case BODKIN_END_CLOSED: return "an end (home, place, s or d) is closed";
+    case BODKIN_NO_DRIVE: return "both ends are open, but there is no shortest drive";
+    case BODKIN_SHORT_ROUTE: return "the route buffer is shorter than distance + 1";
+    case BODKIN_NOT_ASSURED: return "home is not assured";
+    case BODKIN_BAD_LETTERS: return "the file does not start with P1 or P4";
+    case BODKIN_BAD_HEADER:
+        return "the header is against the rules or cut short, or a P1 raster has a byte before its "
+               "last digit that is neither 0, 1 nor blank";
+    case BODKIN_SHORT_RASTER: return "the raster ends early";
+    case BODKIN_LONG_RASTER: return "there are bytes after the raster";
+    case BODKIN_SHARED_CROSSING: return "two markers stand on one crossing";
+    case BODKIN_SHORT_OUTPUT: return "the output is too short for the whole file";
+    default: return "no refusal has this number";
+    }
+}
 
 #ifdef __cplusplus
 }

@@ -1,6 +1,7 @@
 /*
- * Every function of the library, and hostile input to each: which refusal, and what memory holds then. All that is lent stands in one record, in noise
- * and with guards between; after a call every byte that the call may not change is compared with what it was.
+ * Every function of the library, and hostile input to each: which refusal, and what memory holds
+ * then. All that is lent stands in one record, in noise and with guards between; after a call every
+ * byte that the call may not change is compared with what it was.
  */
 #include "grainbodkin.h"
 #include "check.h"
@@ -10,8 +11,8 @@
 enum { SLOTS = 8, ALL_SLOTS = BODKIN_MARKERS + 2, SIDE = 8, SHEET = SIDE * SIDE, ROUTE = 16, FILE_BYTES = 15, NOISE = 0xA5 };
 
 /*
- * A sheet has one byte more than the map, so that a sheet too long can be lent. Of the list SLOTS are lent, and the rest is noise; all of it is lent to
- * reach the limit on markers.
+ * A sheet has one byte more than the map, so that a sheet too long can be lent. Of the list SLOTS
+ * are lent, and the rest is noise; all of it is lent to reach the limit on markers.
  */
 static struct lent {
     uint64_t guard_0;

@@ -1,6 +1,7 @@
 /*
- * What the test programs in C share: each expectation prints a line, and the last line tells whether all held. A line is written out at once, so that a
- * program that ends by a signal leaves what it had printed.
+ * What the test programs in C share: each expectation prints a line, and the last line tells
+ * whether all held. A line is written out at once, so that a program that ends by a signal leaves
+ * what it had printed.
  */
 #ifndef CHECK_H
 #define CHECK_H

@@ -52,6 +52,8 @@ static const struct row rows[] = {
     {"no blank after the height", FILE_OF("P1 2 1"), 9, 13, 0},
     {"a sign", FILE_OF("P1 -2 1 01"), 9, 13, 0},
     {"a foreign byte in a P1 raster", FILE_OF("P1 2 1 0x1"), 9, 13, 0},
+    {"a foreign byte after the last digit there is, before the one that would complete the raster", FILE_OF("P1 2 1 0x"), 9, 13, 0},
+    {"a foreign byte and no digit at all", FILE_OF("P1 2 1 x"), 9, 13, 0},
     {"a comment in a P1 raster", FILE_OF("P1 2 1 0#c\n1"), 9, 13, 0},
     {"width 0", FILE_OF("P1 0 1 "), 9, 1, 0},
     {"65 columns", FILE_OF("P4 65 1 "), 9, 1, 0},
@@ -61,7 +63,8 @@ static const struct row rows[] = {
     {"a P4 raster long by a byte", FILE_OF("P4 1 1 \x80\n"), 9, 15, 0},
     {"two blanks after the height in P4", FILE_OF("P4 1 1  \x80"), 9, 15, 0},
     {"a third digit in P1", FILE_OF("P1 2 1 010"), 9, 15, 0},
-    {"a foreign byte after a P1 raster", FILE_OF("P1 2 1 01x"), 9, 15, 0},
+    {"a foreign byte after the digit that completes the raster", FILE_OF("P1 2 1 01x"), 9, 15, 0},
+    {"the same, with a digit after it", FILE_OF("P1 2 1 01x1"), 9, 15, 0},
     {"no slot", FILE_OF("P1 2 1 11"), 1, 7, 0},
     {"no slot, but the raster's fault comes first", FILE_OF("P1 2 1 111"), 1, 15, 0},
 };

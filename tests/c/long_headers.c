@@ -1,6 +1,7 @@
 /*
- * Headers with very many comments, read on a small stack. The reader takes the same stack for them as for one comment, so a stack on which one byte a
- * comment would not find room is enough. Otherwise the program ends by a signal.
+ * Headers with very many comments, read on a small stack. The reader takes the same stack for them
+ * as for one comment, so a stack on which one byte a comment would not find room is enough.
+ * Otherwise the program ends by a signal.
  */
 #include "grainbodkin.h"
 #include "check.h"

@@ -7,11 +7,11 @@ enum { SLOTS = 100 };
 /* Rocks on (2, 2) and (1, 1). */
 static const char file[] = "P1\n5 4\n00000\n00100\n01000\n00000\n";
 static struct bodkin_marker list[SLOTS];
-static uint8_t labels[BODKIN_SIDE * BODKIN_SIDE], region[BODKIN_SIDE * BODKIN_SIDE];
-static uint16_t route[2 * BODKIN_SIDE];
+static uint8_t labels[BODKIN_CROSSINGS], region[BODKIN_CROSSINGS];
+static uint16_t route[BODKIN_ROUTE];
 
 static int refused(uint8_t number) {
-    printf("refused %d\n", number);
+    printf("refused %d: %s\n", number, bodkin_refusal_text(number));
     return 1;
 }
 
@@ -24,11 +24,13 @@ int main(void) {
     if (numbers.refusal) return refused(numbers.refusal);
     printf("%zu rocks, %zu shut, %zu groups\n", numbers.rocks, numbers.shut, numbers.groups);
 
-    /* A rock on home's column takes the assurance; cleared, it gives it back. Home is (0, 0), the place (4, 3). */
+    /* A rock on home's column takes the assurance; cleared, it gives it back.
+       Home is (0, 0), the place (4, 3). */
     struct bodkin_counted counted = bodkin_enter(list, SLOTS, count, w, h, 3, 0, 2);
     if (counted.refusal) return refused(counted.refusal);
     count = counted.count;
-    struct bodkin_assurance home = bodkin_assured(list, SLOTS, count, w, h, 0, 0, 4, 3, labels, w * h);
+    struct bodkin_assurance home =
+        bodkin_assured(list, SLOTS, count, w, h, 0, 0, 4, 3, labels, w * h);
     if (home.refusal) return refused(home.refusal);
     printf("assured: %s\n", home.assured ? "yes" : "no");
     counted = bodkin_clear(list, SLOTS, count, w, h, 3);
@@ -44,7 +46,8 @@ int main(void) {
     }
 
     uint32_t state = 0;
-    struct bodkin_drove drove = bodkin_drive(list, SLOTS, count, w, h, 0, 0, 4, 3, labels, w * h, region, w * h, route, 2 * BODKIN_SIDE, &state);
+    struct bodkin_drove drove = bodkin_drive(list, SLOTS, count, w, h, 0, 0, 4, 3, labels, w * h,
+                                             region, w * h, route, BODKIN_ROUTE, &state);
     if (drove.refusal) return refused(drove.refusal);
     for (size_t i = 0; i < drove.length; i++) printf("%d ", route[i]);
     printf("then state %08x\n", (unsigned)state);

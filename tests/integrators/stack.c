@@ -1,9 +1,10 @@
 /*
- * Measures how many bytes of stack each call takes on inputs that work it hard, and compares with what docs/INTEGRATORS.md holds it to. The page's table
- * comes on standard input, a call and a number a line.
+ * Measures how many bytes of stack each call takes on inputs that work it hard, and compares with
+ * what docs/INTEGRATORS.md holds it to. The page's table comes on standard input, a call and a
+ * number a line.
  *
- * Each call runs on a stack of its own, painted beforehand: the lowest byte that changed tells its depth. What an empty call takes there is the
- * caller's own and is taken off.
+ * Each call runs on a stack of its own, painted beforehand: the lowest byte that changed tells its
+ * depth. What an empty call takes there is the caller's own and is taken off.
  */
 #define _GNU_SOURCE
 #include <stdio.h>

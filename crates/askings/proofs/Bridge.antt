@@ -1,20 +1,57 @@
--- The bridge from a label sheet's marks to the closed crossings. The marks of the sheet are the crossings that the rocks stamped before close, no more
--- and no fewer; so each answer over the marks is that answer over the closed crossings.
-use mathlib.Core.List.{List}
-use mathlib.Core.Logic.{inl, inr}
-use Prim.Native.Nat.{ℕ}
-use Rattle.field.specs.Map.{Sides}
+-- The bridge from a label sheet's marks to the closed crossings. The marks of the sheet are the
+-- crossings that the rocks stamped before close, no more and no fewer; so each answer over the
+-- marks is that answer over the closed crossings.
+use mathlib.Core.Path.{_≡_, refl, sym, subst, _∙_}
+use mathlib.Core.Bool.{Bool, true, false, true≢false}
+use mathlib.Core.List.{List, [], _∷_}
+use mathlib.Core.Logic.{_↔_, _⊎_, inl, inr}
+use Prim.Native.Nat.{ℕ, _<_, _≤_}
+use native.Mathlib.Omega.{arith}
+use native.Mathlib.Decide.{ℕ-discrete, decLe}
+use lib.ListN.{length}
+use Rattle.field.specs.Map.{Sides, dist}
+use Rattle.field.specs.Refusals.{no-slot, end-closed, not-assured}
 use Rattle.field.specs.Labels.{Stable, closed-stable, LabelSheet}
+use Rattle.field.specs.Distances.{Assured}
+use Rattle.field.specs.Hops.{HopAnswer, there, one, two, Answers}
 use Rattle.field.specs.Workings.Sheet.{Marked}
 use Rattle.field.specs.Workings.Labelling.{label-sheet-draws}
-use Rattle.field.specs.Workings.SameLaws.{Alike, alike-back, open-same, assured-same, answers-same, has-drive-same, region-sheet-same, driven-same}
+use Rattle.field.specs.Workings.SameLaws.{Alike, alike-back, assured-same, answers-same}
 use Rattle.sheets.specs.Promise.{Fits}
-use Rattle.answers.specs.declared.Assurance.{Assurance}
-use Rattle.answers.specs.declared.Homeward.{Homeward}
-use Rattle.answers.specs.declared.Drove.{Drove}
-use Rattle.answers.specs.Promise.{AnEndClosed, BothOpen, AssuredAnswer, HopsAnswer, hops, RegionAnswer, nowhere, somewhere}
-use Rattle.answers.specs.Promise.{DriveAnswer, no-region, short, filled}
-use Rattle.askings.specs.Promise.{Stones, ClosedOn}
+use Rattle.labels.specs.Promise.{Stones}
+use Rattle.regions.specs.Promise.{Regioned, foundNumber}
+use Rattle.regions.specs.declared.Found.{Found}
+use Rattle.drives.specs.Promise.{Makes, madeNumber}
+use Rattle.drives.specs.declared.Made.{Made}
+use Rattle.calls.specs.Rules.{Gives, AnEndClosed, assured-rows, hop-rows, region-rows, drive-rows}
+use Rattle.calls.specs.RuleLaws.{gives-reworded, gives-above, gives-none, holds}
+use Rattle.calls.specs.Parts.{before}
+use Rattle.calls.specs.Answers.{Early, no-assurance, no-hop, no-crossings, homeward}
+use Rattle.calls.specs.AfterLaws.{labels-kept, labels-made, region-kept, route-kept}
+use Rattle.calls.specs.SameLaws.{assured-rows-same, hop-rows-same, region-rows-same, drive-rows-same, region-after-same, route-after-same}
+use Rattle.calls.specs.declared.Assurance.{Assurance}
+use Rattle.calls.specs.declared.Homeward.{Homeward}
+use Rattle.calls.specs.declared.Drove.{Drove}
+use Rattle.askings.specs.Promise.{ClosedOn, AssuredRest, HopRest, RegionRest, DriveRest, DriveTold}
+
+-- A refusal from before changes no lent byte.
+pub early-of : {n : ℕ} → ¬ (n ≡ 0) → n ≤ no-slot → Early n
+early-of f l = (omega arith, l)
+
+-- A test that tells no.
+told-no : {P : Type 0} {b : Bool} → ((b ≡ true) ↔ P) → b ≡ false → ¬ P
+told-no t e p = true≢false (sym (t .1 p) ∙ e)
+
+-- A number above those that change no lent byte.
+late-number : {n : ℕ} → (n ≡ 0) ⊎ (no-slot < n) → ¬ Early n
+late-number (inl z) e = omega (arith, e .0)
+late-number (inr l) e = omega (arith, e .1)
+
+-- An answer of a hop is no refusal.
+hop-given : (answer : HopAnswer) → homeward answer .refusal ≡ 0
+hop-given there = refl
+hop-given (one x y) = refl
+hop-given (two x y a b) = refl
 
 -- s is the sheet stamped, t the label sheet that came of it.
 module _ {w h : ℕ} {s t : List ℕ} (sheet : LabelSheet (Stones w h s) w h t) where
@@ -29,32 +66,125 @@ module _ {w h : ℕ} {s t : List ℕ} (sheet : LabelSheet (Stones w h s) w h t) 
   pub labelled-fits : Sides w h → Fits w h t
   labelled-fits k = record { sides = k; size = sheet .size }
 
--- Each answer is carried over from C to D, where they have the same crossings.
-module _ (w h : ℕ) {C D : ℕ → ℕ → Type 0} (a : Alike C D) where
-  end-closed-same : {x y p q : ℕ} → AnEndClosed w h C x y p q → AnEndClosed w h D x y p q
-  end-closed-same (inl n) = inl (λ o. n (open-same w h (alike-back a) o))
-  end-closed-same (inr n) = inr (λ o. n (open-same w h (alike-back a) o))
+  -- An end closed, told of the marks, is told of the closed crossings.
+  ends-carried : {x y a b : ℕ} → AnEndClosed (Marked t w h) x y a b → AnEndClosed (ClosedOn w h s) x y a b
+  ends-carried {x} {y} (inl c) = inl (marked-alike x y .0 c)
+  ends-carried {a = a} {b = b} (inr c) = inr (marked-alike a b .0 c)
 
-  both-open-same : {x y p q : ℕ} → BothOpen w h C x y p q → BothOpen w h D x y p q
-  both-open-same o = (open-same w h a (o .0), open-same w h a (o .1))
+  ends-back : {x y a b : ℕ} → AnEndClosed (ClosedOn w h s) x y a b → AnEndClosed (Marked t w h) x y a b
+  ends-back {x} {y} (inl c) = inl (marked-alike x y .1 c)
+  ends-back {a = a} {b = b} (inr c) = inr (marked-alike a b .1 c)
 
-  pub assured-answer-same : {hx hy x y : ℕ} {r : Assurance} → AssuredAnswer w h C hx hy x y r → AssuredAnswer w h D hx hy x y r
-  assured-answer-same (AssuredAnswer.end-is-closed n e) = AssuredAnswer.end-is-closed (end-closed-same n) e
-  assured-answer-same (AssuredAnswer.yes-home o k e) = AssuredAnswer.yes-home (both-open-same o) (assured-same w h a k) e
-  assured-answer-same (AssuredAnswer.no-home o n e) = AssuredAnswer.no-home (both-open-same o) (λ k. n (assured-same w h (alike-back a) k)) e
+  module _ {n : ℕ} (z : n ≡ 0) {hx hy x y : ℕ} where
+    pub assured-closed : {r : Assurance} → AnEndClosed (Marked t w h) hx hy x y → r ≡ no-assurance end-closed → AssuredRest n w h hx hy x y s t r
+    assured-closed c e =
+        rw e
+        (record {
+          given = inr (λ f. f z, inl (ends-carried c, refl));
+          labels-after = labels-made (λ b. omega (arith, b .1)) sheet;
+          refused = λ _. refl;
+          done = λ k. absurd (omega arith);
+        })
 
-  pub hops-answer-same : {hx hy x y : ℕ} {r : Homeward} → HopsAnswer w h C hx hy x y r → HopsAnswer w h D hx hy x y r
-  hops-answer-same (HopsAnswer.end-is-closed n e) = HopsAnswer.end-is-closed (end-closed-same n) e
-  hops-answer-same (HopsAnswer.no-home o n e) = HopsAnswer.no-home (both-open-same o) (λ k. n (assured-same w h (alike-back a) k)) e
-  hops-answer-same (hops answer k m e) = hops answer (assured-same w h a k) (answers-same w h a m) e
+    pub assured-told : {b : Bool} → ¬ AnEndClosed (Marked t w h) hx hy x y → ((b ≡ true) ↔ Assured w h (Marked t w h) hx hy x y)
+        → AssuredRest n w h hx hy x y s t (record { refusal = 0; assured = b })
+    assured-told o k =
+        record {
+          given = inr (λ f. f z, inr (λ c. o (ends-back c), refl));
+          labels-after = labels-made (λ b. omega (arith, b .0)) sheet;
+          refused = λ f. absurd (f refl);
+          done = λ _. (λ e. assured-same w h marked-alike (k .0 e), λ a. k .1 (assured-same w h (alike-back marked-alike) a));
+        }
 
-  pub region-answer-same : {sx sy dx dy : ℕ} {g g′ : List ℕ} {r : ℕ} → RegionAnswer w h C sx sy dx dy g g′ r → RegionAnswer w h D sx sy dx dy g g′ r
-  region-answer-same (RegionAnswer.end-is-closed n p e) = RegionAnswer.end-is-closed (end-closed-same n) p e
-  region-answer-same (nowhere o n p z e) = nowhere (both-open-same o) (λ v. n (has-drive-same w h (alike-back a) v)) p z e
-  region-answer-same (somewhere v p e) = somewhere (has-drive-same w h a v) (region-sheet-same w h a p) e
+    pub hop-closed : {r : Homeward} → AnEndClosed (Marked t w h) hx hy x y → r ≡ no-hop end-closed → HopRest n w h hx hy x y s t r
+    hop-closed c e =
+        rw e
+        (record {
+          given = inr (λ f. f z, inl (ends-carried c, refl));
+          labels-after = labels-made (λ b. omega (arith, b .1)) sheet;
+          refused = λ _. refl;
+          done = λ k. absurd (omega arith);
+        })
 
-  pub drive-answer-same : {sx sy dx dy : ℕ} {g route g′ route′ : List ℕ} {z z′ : ℕ} {r : Drove} → DriveAnswer w h C sx sy dx dy g route z g′ route′ z′ r
-      → DriveAnswer w h D sx sy dx dy g route z g′ route′ z′ r
-  drive-answer-same (no-region k n p q u e) = no-region k n (region-answer-same p) q u e
-  drive-answer-same (short v p l q u e) = short (has-drive-same w h a v) (region-sheet-same w h a p) l q u e
-  drive-answer-same (filled v p l d q e) = filled (has-drive-same w h a v) (region-sheet-same w h a p) l (driven-same w h a d) q e
+    pub hop-not-assured : {b : Bool} {r : Homeward} → ¬ AnEndClosed (Marked t w h) hx hy x y → ((b ≡ true) ↔ Assured w h (Marked t w h) hx hy x y)
+        → b ≡ false → r ≡ no-hop not-assured → HopRest n w h hx hy x y s t r
+    hop-not-assured o k not-so e =
+        rw e
+        (record {
+          given = inr (λ f. f z, inr (λ c. o (ends-back c), inl (λ a. told-no k not-so (assured-same w h (alike-back marked-alike) a), refl)));
+          labels-after = labels-made (λ b. omega (arith, b .1)) sheet;
+          refused = λ _. refl;
+          done = λ k. absurd (omega arith);
+        })
+
+    pub hop-told : {r : Homeward} {answer : HopAnswer} → Assured w h (Marked t w h) hx hy x y → Answers w h (Marked t w h) hx hy x y answer
+        → r ≡ homeward answer → HopRest n w h hx hy x y s t r
+    hop-told {r} {answer} a q e =
+        let zero : r .refusal ≡ 0 = subst (λ (u : Homeward). u .refusal ≡ 0) (sym e) (hop-given answer) in
+        record {
+          given = inr (λ f. f z, inr (open-ends, inr (λ f. f (assured-same w h marked-alike a), zero)));
+          labels-after = labels-made (λ b. omega (arith, b .0)) sheet;
+          refused = λ f. absurd (f zero);
+          done = λ _. record { answer = answer; answers = answers-same w h marked-alike q; is = e };
+        }
+      where
+        open-ends : ¬ AnEndClosed (ClosedOn w h s) hx hy x y
+        open-ends (inl c) = a .home .free (marked-alike hx hy .1 c)
+        open-ends (inr c) = a .place .free (marked-alike x y .1 c)
+
+  module _ {n : ℕ} (z : n ≡ 0) {sx sy dx dy : ℕ} {g g′ : List ℕ} where
+    -- What is refused by the rows that need the labels is no refusal from before.
+    pub region-told : {r : ℕ} (found : Found) → Regioned w h t sx sy dx dy g g′ found → r ≡ foundNumber found → RegionRest n w h sx sy dx dy s g t g′ r
+    region-told found p e =
+        rw e
+        (record {
+          given = inr (λ f. f z, gives-reworded (region-rows w h (Marked t w h) sx sy dx dy) (region-rows w h (ClosedOn w h s) sx sy dx dy) _ (region-rows-same w h marked-alike) (p .given));
+          labels-after = labels-made (late-number (gives-above (region-rows w h (Marked t w h) sx sy dx dy) no-slot _ (omega arith) (p .given))) sheet;
+          region-after = region-after-same w h (λ _. marked-alike) (p .region-after);
+        })
+
+    pub drive-told : {route route′ : List ℕ} {y y′ : ℕ} {r : Drove} (made : Made) → Makes w h t sx sy dx dy y g g′ route route′ made → DriveTold made y y′ r
+        → DriveRest n w h sx sy dx dy s g route y t g′ route′ y′ r
+    drive-told {route} made p q =
+        record {
+          given = inr (λ f. f z, rw (q .refusal) (gives-reworded (drive-rows w h (Marked t w h) sx sy dx dy route) (drive-rows w h (ClosedOn w h s) sx sy dx dy route) _ (drive-rows-same w h marked-alike route) (p .given)));
+          labels-after = rw (q .refusal) (labels-made (late-number (gives-above (drive-rows w h (Marked t w h) sx sy dx dy route) no-slot _ (omega arith) (p .given))) sheet);
+          region-after = rw (q .refusal) (region-after-same w h (λ _. marked-alike) (p .region-after));
+          route-after = rw (q .refusal, q .length, q .state) (route-after-same w h (λ _. marked-alike) (p .route-after));
+        }
+
+-- A refusal from before.
+module _ {n w h : ℕ} {s : List ℕ} (f : ¬ (n ≡ 0)) (l : n ≤ no-slot) where
+  pub assured-before : {hx hy x y : ℕ} {r : Assurance} → r ≡ no-assurance n → AssuredRest n w h hx hy x y s s r
+  assured-before e =
+      rw e (record { given = inl (f, refl); labels-after = labels-kept (early-of f l); refused = λ _. refl; done = λ z. absurd (f z) })
+
+  pub hop-before : {hx hy x y : ℕ} {r : Homeward} → r ≡ no-hop n → HopRest n w h hx hy x y s s r
+  hop-before e =
+      rw e (record { given = inl (f, refl); labels-after = labels-kept (early-of f l); refused = λ _. refl; done = λ z. absurd (f z) })
+
+  pub drive-before : {sx sy dx dy z : ℕ} {g route : List ℕ} {r : Drove} → r ≡ no-crossings n → DriveRest n w h sx sy dx dy s g route z s g route z r
+  drive-before e =
+      rw e
+      (record {
+        given = inl (f, refl);
+        labels-after = labels-kept (early-of f l);
+        region-after = region-kept (early-of f l .0, omega arith);
+        route-after = route-kept f;
+      })
+
+-- What a drive fills is no longer than the route: at a refusal it is nothing, and else row 10 does
+-- not apply.
+pub drove-within : {n w h sx sy dx dy z z′ : ℕ} {s g s′ g′ route route′ : List ℕ} {r : Drove}
+    → DriveRest n w h sx sy dx dy s g route z s′ g′ route′ z′ r → r .length ≤ length route
+drove-within {n} {w} {h} {sx} {sy} {dx} {dy} {s = s} {route = route} {r = r} e = go (ℕ-discrete (r .refusal) 0)
+  where
+    go : Dec (r .refusal ≡ 0) → r .length ≤ length route
+    go (no f) = omega (arith, e .route-after .none f)
+    go (yes k) = by-rows (e .given)
+      where
+        by-rows : Gives (before n ∷ drive-rows w h (ClosedOn w h s) sx sy dx dy route) (r .refusal) → r .length ≤ length route
+        by-rows (inl p) = absurd (p .0 (sym (p .1) ∙ k))
+        by-rows (inr p) =
+            let none = gives-none (drive-rows w h (ClosedOn w h s) sx sy dx dy route) 0 (r .refusal) (omega arith) (p .1) k in
+            holds (decLe _ _) (λ m. none .1 .1 .0 (omega (arith, e .route-after .long k)))

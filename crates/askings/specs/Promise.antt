@@ -1,109 +1,128 @@
--- An asking's second part. The first part has judged what comes before anything is written: n is its refusal, 1 to 4, or 0, and then the label sheet s
--- is stamped with the rocks. What stands here takes it from there: the sheet is labelled, and the question is answered over the closed crossings of
--- the rocks stamped. At a refusal from before, every lent byte stays and the answer is the number alone.
+-- An asking's second part. The first part has judged what comes before anything is written: n is
+-- its refusal, 1 to 4, or 0, and then the label sheet s is stamped with the rocks. What stands here
+-- takes it from there: the sheet is labelled, and the question is answered over the closed
+-- crossings of the rocks stamped. It is said in the words of the calls: by its rows, of which the
+-- first is what was found before, and by what is left in lent memory.
 use mathlib.Core.Path.{_≡_}
-use mathlib.Core.Bool.{true, false}
+use mathlib.Core.Bool.{Bool, true, false}
 use mathlib.Core.List.{List, [], _∷_}
-use mathlib.Core.Logic.{_↔_, _⊎_}
-use Prim.Native.Nat.{ℕ, _+_, _*_, _<_, _≤_}
-use lib.ListN.{length, getD, take, drop}
-use Rattle.field.specs.Map.{On, dist}
-use Rattle.field.specs.Refusals.{end-closed, no-drive, short-route, not-assured}
-use Rattle.field.specs.Labels.{RockOn, Closed, Open, Shut, LabelSheet, Count}
-use Rattle.field.specs.Groups.{Groups}
-use Rattle.field.specs.Distances.{Distances, DistanceSheet, eastward, southward, westward, northward, Assured}
-use Rattle.field.specs.Hops.{HopAnswer, there, one, two, Answers}
-use Rattle.field.specs.Drives.{HasDrive, RegionSheet}
-use Rattle.field.specs.Chooser.{Driven}
-use Rattle.field.specs.Workings.Sheet.{Marked}
-use Rattle.labels.specs.Promise.{Stamped}
-use Rattle.askings.specs.declared.Labelling.{Labelling}
-use Rattle.askings.specs.declared.Four.{Four}
-use Rattle.answers.specs.declared.Assurance.{Assurance}
-use Rattle.answers.specs.declared.Homeward.{Homeward}
-use Rattle.answers.specs.declared.Drove.{Drove}
-use Rattle.answers.specs.Promise.{AssuredAnswer, no-hop, HopsAnswer, RegionAnswer, DriveAnswer}
+use mathlib.Core.Logic.{_↔_}
+use Prim.Native.Nat.{ℕ, _*_, _≤_}
+use lib.ListN.{length, take}
+use Rattle.field.specs.Map.{On}
+use Rattle.field.specs.Refusals.{no-slot}
+use Rattle.field.specs.Labels.{Closed}
+use Rattle.field.specs.Distances.{Distances, eastward, southward, westward, northward, Assured}
+use Rattle.labels.specs.Promise.{Stamped, Stones}
+use Rattle.drives.specs.declared.Made.{Made}
+use Rattle.drives.specs.Promise.{madeNumber, madeLength, madeState}
+use Rattle.calls.specs.Rules.{Gives, AnEndClosed, assured-rows, hop-rows, region-rows, drive-rows}
+use Rattle.calls.specs.Parts.{before}
+use Rattle.calls.specs.Answers.{no-labelling, no-four, no-assurance, no-hop, LabelsAfter, Numbers, DistancesAfter, HopsNamed, RegionAfter, RouteAfter}
+use Rattle.calls.specs.declared.Labelling.{Labelling}
+use Rattle.calls.specs.declared.Four.{Four}
+use Rattle.calls.specs.declared.Assurance.{Assurance}
+use Rattle.calls.specs.declared.Homeward.{Homeward}
+use Rattle.calls.specs.declared.Drove.{Drove}
 
--- The rocks stamped on a sheet, and the crossings that they close.
-abbrev pub Stones : ℕ → ℕ → List ℕ → ℕ → ℕ → Type 0
-Stones w h s = Marked s w h
-
+-- The crossings that the rocks stamped on a sheet close.
 abbrev pub ClosedOn : ℕ → ℕ → List ℕ → ℕ → ℕ → Type 0
 ClosedOn w h s = Closed (Stones w h s) w h
 
--- What the first part has made sure of where it gave 0: the sheet is stamped, the places are on the map, the other sheets have the map's size.
+-- What the first part has made sure of: its refusal is one that changes no lent byte, and where it
+-- gave 0 the sheet is stamped, the places are on the map, and the other sheets have the map's size.
 pub record MayLabel (n w h : ℕ) (s : List ℕ) : Type 0 where
+  pub early : n ≤ no-slot
   pub stamped : n ≡ 0 → Stamped w h s
 
 pub record MayAsk (n w h x y : ℕ) (s : List ℕ) : Type 0 where
-  pub stamped : n ≡ 0 → Stamped w h s
+  pub first : MayLabel n w h s
   pub on : n ≡ 0 → On w h x y
 
 pub record MayAskTwo (n w h x y a b : ℕ) (s : List ℕ) : Type 0 where
-  pub stamped : n ≡ 0 → Stamped w h s
-  pub on : n ≡ 0 → On w h x y × On w h a b
+  pub first : MayLabel n w h s
+  pub from : n ≡ 0 → On w h x y
+  pub to : n ≡ 0 → On w h a b
 
 pub record MayMeasure (n w h : ℕ) (s e d f u : List ℕ) : Type 0 where
-  pub stamped : n ≡ 0 → Stamped w h s
-  pub sizes : n ≡ 0 → (length e ≡ h * w) × (length d ≡ h * w) × (length f ≡ h * w) × (length u ≡ h * w)
+  pub first : MayLabel n w h s
+  pub east : n ≡ 0 → length e ≡ h * w
+  pub south : n ≡ 0 → length d ≡ h * w
+  pub west : n ≡ 0 → length f ≡ h * w
+  pub north : n ≡ 0 → length u ≡ h * w
 
 pub record MayDrive (n w h x y a b : ℕ) (s g : List ℕ) : Type 0 where
-  pub stamped : n ≡ 0 → Stamped w h s
-  pub on : n ≡ 0 → On w h x y × On w h a b
+  pub asked : MayAskTwo n w h x y a b s
   pub size : n ≡ 0 → length g ≡ h * w
 
 -- label
 pub record LabelRest (n w h : ℕ) (s s′ : List ℕ) (r : Labelling) : Type 0 where
-  pub refused : ¬ (n ≡ 0) → (s′ ≡ s) × (r ≡ record { refusal = n; rocks = 0; shut = 0; groups = 0 })
-  pub done :
-      n ≡ 0
-      → (r .refusal ≡ 0)
-      × LabelSheet (Stones w h s) w h s′
-      × Count w h (RockOn (Stones w h s) w h) (r .rocks)
-      × Count w h (Shut (Stones w h s) w h) (r .shut)
-      × Groups w h (ClosedOn w h s) (r .groups)
+  pub given : Gives (before n ∷ []) (r .refusal)
+  pub labels-after : LabelsAfter (Stones w h s) w h (r .refusal) s s′
+  pub refused : ¬ (r .refusal ≡ 0) → r ≡ no-labelling (r .refusal)
+  pub done : r .refusal ≡ 0 → Numbers (Stones w h s) w h r
 
 -- the four distances of a crossing
 pub record DistancesRest (n w h x y : ℕ) (s s′ : List ℕ) (r : Four) : Type 0 where
-  pub refused : ¬ (n ≡ 0) → (s′ ≡ s) × (r ≡ record { refusal = n; four = 0 ∷ 0 ∷ 0 ∷ 0 ∷ [] })
-  pub done : n ≡ 0 → (r .refusal ≡ 0) × LabelSheet (Stones w h s) w h s′ × Distances (ClosedOn w h s) x y (r .four)
+  pub given : Gives (before n ∷ []) (r .refusal)
+  pub labels-after : LabelsAfter (Stones w h s) w h (r .refusal) s s′
+  pub refused : ¬ (r .refusal ≡ 0) → r ≡ no-four (r .refusal)
+  pub done : r .refusal ≡ 0 → Distances (ClosedOn w h s) x y (r .four)
 
 -- the distances of the map
 pub record MeasureRest (n w h : ℕ) (s e d f u s′ e′ d′ f′ u′ : List ℕ) (r : ℕ) : Type 0 where
-  pub number : r ≡ n
-  pub refused : ¬ (n ≡ 0) → (s′ ≡ s) × (e′ ≡ e) × (d′ ≡ d) × (f′ ≡ f) × (u′ ≡ u)
-  pub done :
-      n ≡ 0
-      → LabelSheet (Stones w h s) w h s′
-      × DistanceSheet w h (ClosedOn w h s) eastward e′
-      × DistanceSheet w h (ClosedOn w h s) southward d′
-      × DistanceSheet w h (ClosedOn w h s) westward f′
-      × DistanceSheet w h (ClosedOn w h s) northward u′
+  pub given : Gives (before n ∷ []) r
+  pub labels-after : LabelsAfter (Stones w h s) w h r s s′
+  pub east-after : DistancesAfter w h (ClosedOn w h s) eastward r e e′
+  pub south-after : DistancesAfter w h (ClosedOn w h s) southward r d d′
+  pub west-after : DistancesAfter w h (ClosedOn w h s) westward r f f′
+  pub north-after : DistancesAfter w h (ClosedOn w h s) northward r u u′
 
 -- assured
 pub record AssuredRest (n w h hx hy x y : ℕ) (s s′ : List ℕ) (r : Assurance) : Type 0 where
-  pub refused : ¬ (n ≡ 0) → (s′ ≡ s) × (r ≡ record { refusal = n; assured = false })
-  pub done : n ≡ 0 → LabelSheet (Stones w h s) w h s′ × AssuredAnswer w h (ClosedOn w h s) hx hy x y r
+  pub given : Gives (before n ∷ assured-rows (ClosedOn w h s) hx hy x y) (r .refusal)
+  pub labels-after : LabelsAfter (Stones w h s) w h (r .refusal) s s′
+  pub refused : ¬ (r .refusal ≡ 0) → r ≡ no-assurance (r .refusal)
+  pub done : r .refusal ≡ 0 → ((r .assured ≡ true) ↔ Assured w h (ClosedOn w h s) hx hy x y)
 
 -- hop
 pub record HopRest (n w h hx hy x y : ℕ) (s s′ : List ℕ) (r : Homeward) : Type 0 where
-  pub refused : ¬ (n ≡ 0) → (s′ ≡ s) × (r ≡ no-hop n)
-  pub done : n ≡ 0 → LabelSheet (Stones w h s) w h s′ × HopsAnswer w h (ClosedOn w h s) hx hy x y r
+  pub given : Gives (before n ∷ hop-rows w h (ClosedOn w h s) hx hy x y) (r .refusal)
+  pub labels-after : LabelsAfter (Stones w h s) w h (r .refusal) s s′
+  pub refused : ¬ (r .refusal ≡ 0) → r ≡ no-hop (r .refusal)
+  pub done : r .refusal ≡ 0 → HopsNamed w h (ClosedOn w h s) hx hy x y r
 
 -- region
 pub record RegionRest (n w h sx sy dx dy : ℕ) (s g s′ g′ : List ℕ) (r : ℕ) : Type 0 where
-  pub refused : ¬ (n ≡ 0) → (s′ ≡ s) × (g′ ≡ g) × (r ≡ n)
-  pub done : n ≡ 0 → LabelSheet (Stones w h s) w h s′ × RegionAnswer w h (ClosedOn w h s) sx sy dx dy g g′ r
+  pub given : Gives (before n ∷ region-rows w h (ClosedOn w h s) sx sy dx dy) r
+  pub labels-after : LabelsAfter (Stones w h s) w h r s s′
+  pub region-after : RegionAfter w h (ClosedOn w h s) sx sy dx dy r g g′
 
 -- drive
 pub record DriveRest (n w h sx sy dx dy : ℕ) (s g route : List ℕ) (z : ℕ) (s′ g′ route′ : List ℕ) (z′ : ℕ) (r : Drove) : Type 0 where
-  pub refused : ¬ (n ≡ 0) → (s′ ≡ s) × (g′ ≡ g) × (route′ ≡ route) × (z′ ≡ z) × (r ≡ record { refusal = n; length = 0 })
-  pub done : n ≡ 0 → LabelSheet (Stones w h s) w h s′ × DriveAnswer w h (ClosedOn w h s) sx sy dx dy g route z g′ route′ z′ r
+  pub given : Gives (before n ∷ drive-rows w h (ClosedOn w h s) sx sy dx dy route) (r .refusal)
+  pub labels-after : LabelsAfter (Stones w h s) w h (r .refusal) s s′
+  pub region-after : RegionAfter w h (ClosedOn w h s) sx sy dx dy (r .refusal) g g′
+  pub route-after : RouteAfter w h (ClosedOn w h s) sx sy dx dy (r .refusal) (r .length) route z route′ z′
 
--- route: the same drive, of which the leading part of the route is handed back, as many crossings as were filled; number and state go out through
--- lent numbers. route′ is the route as `drive` leaves it.
-pub record RouteRest (n w h sx sy dx dy : ℕ) (s g route : List ℕ) (z : ℕ) (s′ g′ part : List ℕ) (number z′ : ℕ) : Type 0 where
+-- route: the same drive, of which the leading part of the route is handed back, as many crossings
+-- as were filled; number and state go out through lent numbers. route′ is the route as `drive`
+-- leaves it, and the part begins where the lent route begins.
+pub record RouteRest (n w h sx sy dx dy : ℕ) (s g route : List ℕ) (z : ℕ) (s′ g′ part : List ℕ) (number z′ : ℕ) (route-begins part-begins : ℕ × ℕ) : Type 0 where
+  pub leading : part-begins ≡ route-begins
   pub route′ : List ℕ
   pub crossings : ℕ
   pub drove : DriveRest n w h sx sy dx dy s g route z s′ g′ route′ z′ (record { refusal = number; length = crossings })
   pub part-is : part ≡ take crossings route′
+
+-- For the functions within: what the test of two ends tells, C being the closed crossings. Yes: an
+-- end is closed. No: none is.
+abbrev pub EndsTold : (ℕ → ℕ → Type 0) → ℕ → ℕ → ℕ → ℕ → Bool → Type 0
+EndsTold C x y a b true = AnEndClosed C x y a b
+EndsTold C x y a b false = ¬ AnEndClosed C x y a b
+
+-- What is told of a drive: the number, how many crossings are filled, and the state after it.
+pub record DriveTold (made : Made) (z z′ : ℕ) (r : Drove) : Type 0 where
+  pub refusal : r .refusal ≡ madeNumber made
+  pub length : r .length ≡ madeLength made
+  pub state : z′ ≡ madeState z made

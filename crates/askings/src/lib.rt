@@ -1,30 +1,26 @@
-// The second part of each asking, over a lent label sheet on which the rocks are stamped. n is the refusal that was found before, or 0. At a refusal
-// nothing lent is touched and the answer is the number with zeros. Else the sheet is labelled first, and then the question is answered over it.
-use answers::Assurance;
-use answers::Drove;
-use answers::Homeward;
+// The second part of each asking, over a lent label sheet on which the rocks are stamped. n is the
+// refusal that was found before, or 0. At a refusal from before nothing lent is touched and the
+// answer is the number with zeros. Else the sheet is labelled first, and then the question is
+// answered over its marks: whatever is not 0 on it is closed.
+mod telling; // telling.rt: what the crates below tell, as document 01's number and values
+
+use calls::Assurance;
+use calls::Drove;
+use calls::Four;
+use calls::Homeward;
+use calls::Labelling;
+use field::refusals::END_CLOSED;
+use field::refusals::NOT_ASSURED;
 use field::refusals::SUCCESS;
 ghost use Rattle.askings.specs.Promise.{MayLabel, MayAsk, MayAskTwo, MayMeasure, MayDrive};
 ghost use Rattle.askings.specs.Promise.{LabelRest, DistancesRest, MeasureRest, AssuredRest, HopRest, RegionRest, DriveRest, RouteRest};
+use telling::an_end_closed;
+use telling::no_assurance;
+use telling::no_crossings;
+use telling::no_hop;
 
 // n where no refusal was found before.
 const UNREFUSED: u8 = 0;
-
-// The numbers of rocks' crossings, shut crossings and groups, or the refusal.
-#[repr(C)]
-pub struct Labelling {
-    pub refusal: u8,
-    pub rocks: usize,
-    pub shut: usize,
-    pub groups: usize,
-}
-
-// The four distances of a crossing, east, south, west, north, or the refusal.
-#[repr(C)]
-pub struct Four {
-    pub refusal: u8,
-    pub four: [u8; 4],
-}
 
 // Labels the sheet, and hands back the numbers of rocks' crossings, shut crossings and groups.
 pub fn label(n: u8, w: usize, h: usize, labels: &mut [u8]) -> Labelling
@@ -89,7 +85,7 @@ pub fn measure(
     SUCCESS
 }
 
-// Whether home (hx, hy) is assured for (x, y).
+// Whether home (hx, hy) is assured for (x, y). With an end closed: refusal 8.
 pub fn assured(
     n: u8,
     w: usize,
@@ -104,16 +100,21 @@ pub fn assured(
     ensures { λ r. ⌜ AssuredRest n w h hx hy x y (now (labels .entry)) (now (labels .exit)) r ⌝ }
 {
     if n != UNREFUSED {
-        return Assurance {
-            refusal: n,
-            assured: false,
-        };
+        return no_assurance(n);
     }
     labels::label(labels, w, h);
-    answers::assured(labels, w, h, hx, hy, x, y)
+    if an_end_closed(labels, w, h, hx, hy, x, y) {
+        return no_assurance(END_CLOSED);
+    }
+    let assured = distances::assured(labels, w, h, hx, hy, x, y);
+    Assurance {
+        refusal: SUCCESS,
+        assured,
+    }
 }
 
-// The permitted hops from (x, y) towards home (hx, hy).
+// The permitted hops from (x, y) towards home (hx, hy). With an end closed: refusal 8; both open
+// and home not assured: 11.
 pub fn hop(
     n: u8,
     w: usize,
@@ -128,13 +129,21 @@ pub fn hop(
     ensures { λ r. ⌜ HopRest n w h hx hy x y (now (labels .entry)) (now (labels .exit)) r ⌝ }
 {
     if n != UNREFUSED {
-        return answers::no_hop(n);
+        return no_hop(n);
     }
     labels::label(labels, w, h);
-    answers::hop(labels, w, h, hx, hy, x, y)
+    if an_end_closed(labels, w, h, hx, hy, x, y) {
+        return no_hop(END_CLOSED);
+    }
+    if distances::assured(labels, w, h, hx, hy, x, y) {
+        let answer = hops::hop(labels, w, h, hx, hy, x, y);
+        return telling::hops_named(answer);
+    }
+    no_hop(NOT_ASSURED)
 }
 
-// The region of shortest drives from (sx, sy) to (dx, dy), into a lent sheet.
+// The region of shortest drives from (sx, sy) to (dx, dy), into a lent sheet. With an end closed:
+// refusal 8, and the sheet stays; with no shortest drive: 9, all 0.
 pub fn region(
     n: u8,
     w: usize,
@@ -153,10 +162,13 @@ pub fn region(
         return n;
     }
     labels::label(labels, w, h);
-    answers::region(labels, w, h, sx, sy, dx, dy, region)
+    let found = regions::region(labels, w, h, sx, sy, dx, dy, region);
+    telling::found_number(found)
 }
 
-// The chooser's drive from (sx, sy) to (dx, dy) in the lent state, at the front of a lent route; the lent sheet holds the region.
+// The chooser's drive from (sx, sy) to (dx, dy) in the lent state, at the front of a lent route;
+// the lent sheet holds the region. The state is written only where there is a drive and the route
+// holds it.
 pub fn drive(
     n: u8,
     w: usize,
@@ -174,14 +186,17 @@ pub fn drive(
     ensures { λ r. ⌜ DriveRest n w h sx sy dx dy (now (labels .entry)) (now (region .entry)) (now (route .entry)) (now (state .entry)) (now (labels .exit)) (now (region .exit)) (now (route .exit)) (now (state .exit)) r ⌝ }
 {
     if n != UNREFUSED {
-        return answers::no_crossings(n);
+        return no_crossings(n);
     }
     labels::label(labels, w, h);
-    answers::drive(labels, w, h, sx, sy, dx, dy, region, route, state)
+    let z = *state;
+    let made = drives::fill(labels, w, h, sx, sy, dx, dy, z, region, route);
+    telling::drive_told(made, state)
 }
 
-// The same drive, handed back as the leading part of the lent route: s first and d last, and on a refusal empty. The number, 0 on success, goes out
-// through `refusal`. Nothing is written to the route after `drive`, which says what the rest of it holds.
+// The same drive, handed back as the leading part of the lent route: s first and d last, and on a
+// refusal empty. The number, 0 on success, goes out through `refusal`. Nothing is written to the
+// route after `drive`, which says what the rest of it holds.
 pub fn route<'a>(
     n: u8,
     w: usize,
@@ -197,7 +212,7 @@ pub fn route<'a>(
     state: &mut u32,
 ) -> &'a mut [u16]
     requires { ⌜ MayDrive n w h sx sy dx dy (now labels) (now region) ⌝ }
-    ensures { λ r. ⌜ RouteRest n w h sx sy dx dy (now (labels .entry)) (now (region .entry)) (now (route .entry)) (now (state .entry)) (now (labels .exit)) (now (region .exit)) (now r) (now (refusal .exit)) (now (state .exit)) ⌝ }
+    ensures { λ r. ⌜ RouteRest n w h sx sy dx dy (now (labels .entry)) (now (region .entry)) (now (route .entry)) (now (state .entry)) (now (labels .exit)) (now (region .exit)) (now r) (now (refusal .exit)) (now (state .exit)) (route .entry .ptr) (r .ptr) ⌝ }
 {
     let drove = drive(n, w, h, sx, sy, dx, dy, labels, region, route, state);
     *refusal = drove.refusal;

@@ -1,4 +1,5 @@
--- Lists that agree on the slots in use. Whether a list is well formed, which ids are in use and which crossings are rocks hang on these slots alone.
+-- Lists that agree on the slots in use. Whether a list is well formed, which ids are in use and
+-- which crossings are rocks hang on these slots alone.
 use mathlib.Core.Path.{_≡_, sym, ap, subst, _∙_}
 use mathlib.Core.List.{List}
 use mathlib.Core.Logic.{_⊎_, inl, inr}
@@ -8,22 +9,23 @@ use native.Mathlib.Decide.{decLt, ℕ-discrete}
 use lib.ListN.{length, take}
 use lib.Seq.{length-take-le, getD-take, ext-getD}
 use Rattle.field.specs.declared.Marker.{Marker}
-use Rattle.field.specs.Map.{Sides, On}
+use Rattle.field.specs.Map.{On}
+use Rattle.field.specs.Distances.{Way}
 use Rattle.field.specs.Labels.{blank}
 use Rattle.field.specs.Refusals.{bad-size, bad-sheet, bad-list, no-drive}
 use Rattle.markers.specs.List.{slot, WellFormed, InUse, Entered, Cleared, inUse}
 use Rattle.markers.specs.Laws.Rising.{RisingIds, id-one}
 use Rattle.markers.specs.Laws.Moves.{entered-above}
-use Rattle.calls.specs.Rules.{Shared}
+use Rattle.calls.specs.Rules.{LentMap, lentMap, Sized, Formed, markersIn, RocksOf, ClosedBy, Shared}
 use Rattle.calls.specs.RuleLaws.{formed-holds}
-use Rattle.calls.specs.Calls.{Early, LabelsAfter, RegionAfter}
+use Rattle.calls.specs.Answers.{Early, LabelsAfter, DistancesAfter, RegionAfter, RouteAfter}
 
 -- Slots below the count hold the same markers.
 abbrev pub SameSlots : List Marker → List Marker → ℕ → Type 0
 SameSlots list other count = (k : ℕ) → k < count → slot list k ≡ slot other k
 
--- Two lists agree on the slots in use: the count is at most both lengths, and the slots below it are equal; or it is more than both. Nothing is said
--- of the other slots, nor how many there are.
+-- Two lists agree on the slots in use: the count is at most both lengths, and the slots below it
+-- are equal; or it is more than both. Nothing is said of the other slots, nor how many there are.
 pub data Agree (list other : List Marker) (count : ℕ) : Type 0 where
   within : count ≤ length list → count ≤ length other → SameSlots list other count → Agree list other count
   past : length list < count → length other < count → Agree list other count
@@ -78,56 +80,83 @@ module _ {list other : List Marker} {count : ℕ} where
       same : (f : Marker → ℕ) → f (slot list (t .j)) ≡ f (slot list (t .k)) → f (slot other (t .j)) ≡ f (slot other (t .k))
       same f e = sym (ap f (s (t .j) (t .j-below))) ∙ e ∙ ap f (s (t .k) (t .k-below))
 
--- The table of an asking, opened: 1, 2, 3, and what its own rows give.
-abbrev pub Asked : List Marker → ℕ → ℕ → ℕ → Type 0 → Type 0 → ℕ → Type 0
-Asked list count w h Misfits Own n =
-    ((¬ Sides w h) × (n ≡ bad-size))
-    ⊎ ((¬ ¬ Sides w h)
-    × ((Misfits × (n ≡ bad-sheet))
-    ⊎ ((¬ Misfits) × (((¬ WellFormed w h list count) × (n ≡ bad-list)) ⊎ ((¬ ¬ WellFormed w h list count) × Own)))))
+-- The same map with another list.
+abbrev pub with-list : LentMap → List Marker → LentMap
+with-list m other = lentMap other (m .count) (m .width) (m .height)
 
-module _ {list other : List Marker} {count w h : ℕ} (a : Agree list other count) where
+-- The table of an asking, opened: 1, 2, 3, and what its own rows give.
+abbrev pub AskingGives : LentMap → Type 0 → Type 0 → ℕ → Type 0
+AskingGives m Misfits Own n =
+    ((¬ Sized m) × (n ≡ bad-size))
+    ⊎ ((¬ ¬ Sized m) × ((Misfits × (n ≡ bad-sheet)) ⊎ ((¬ Misfits) × (((¬ Formed m) × (n ≡ bad-list)) ⊎ ((¬ ¬ Formed m) × Own)))))
+
+module _ {m : LentMap} {other : List Marker} (a : Agree (m .list) other (m .count)) where
   -- A list that row 3 passes has the same markers in use as the other.
-  passed-in-use : ¬ ¬ WellFormed w h list count → inUse list count ≡ inUse other count
+  passed-in-use : ¬ ¬ Formed m → markersIn m ≡ markersIn (with-list m other)
   passed-in-use f = agree-in-use a (formed-holds f .lent)
 
-  pub asked-moved : {M G K : Type 0} {n : ℕ} → Asked list count w h M G n → (inUse list count ≡ inUse other count → G → K)
-      → Asked other count w h M K n
+  pub asked-moved : {M G K : Type 0} {n : ℕ} → AskingGives m M G n → (markersIn m ≡ markersIn (with-list m other) → G → K)
+      → AskingGives (with-list m other) M K n
   asked-moved (inl p) f = inl p
   asked-moved (inr (s, inl p)) f = inr (s, inl p)
-  asked-moved (inr (s, inr (m, inl p))) f = inr (s, inr (m, inl (λ t. p .0 (formed-moved (agree-turned a) t), p .1)))
-  asked-moved (inr (s, inr (m, inr p))) f =
-      inr (s, inr (m, inr (λ t. p .0 (λ u. t (formed-moved a u)), f (passed-in-use (p .0)) (p .1))))
+  asked-moved (inr (s, inr (q, inl p))) f = inr (s, inr (q, inl (λ t. p .0 (formed-moved (agree-turned a) t), p .1)))
+  asked-moved (inr (s, inr (q, inr p))) f =
+      inr (s, inr (q, inr (λ t. p .0 (λ u. t (formed-moved a u)), f (passed-in-use (p .0)) (p .1))))
 
   -- So has one whose label sheet is filled.
-  pub asked-in-use : {M G : Type 0} {n : ℕ} → Asked list count w h M G n → ¬ Early n → inUse list count ≡ inUse other count
+  pub asked-in-use : {M G : Type 0} {n : ℕ} → AskingGives m M G n → ¬ Early n → markersIn m ≡ markersIn (with-list m other)
   asked-in-use (inl p) e = absurd (e (omega (arith, p .1)))
   asked-in-use (inr (s, inl p)) e = absurd (e (omega (arith, p .1)))
-  asked-in-use (inr (s, inr (m, inl p))) e = absurd (e (omega (arith, p .1)))
-  asked-in-use (inr (s, inr (m, inr p))) e = passed-in-use (p .0)
+  asked-in-use (inr (s, inr (q, inl p))) e = absurd (e (omega (arith, p .1)))
+  asked-in-use (inr (s, inr (q, inr p))) e = passed-in-use (p .0)
 
-  pub labels-moved : {M G : Type 0} {n : ℕ} {labels labels′ : List ℕ} → Asked list count w h M G n → LabelsAfter list count w h n labels labels′
-      → LabelsAfter other count w h n labels labels′
+  pub labels-moved : {M G : Type 0} {n : ℕ} {labels labels′ : List ℕ} → AskingGives m M G n
+      → LabelsAfter (RocksOf m) (m .width) (m .height) n labels labels′
+      → LabelsAfter (RocksOf (with-list m other)) (m .width) (m .height) n labels labels′
   labels-moved g l = record { kept = l .kept; labelled = λ t. rw (asked-in-use g t) at (l .labelled t) }
 
-  pub region-moved : {M G : Type 0} {sx sy dx dy n : ℕ} {region region′ : List ℕ} → Asked list count w h M G n
-      → RegionAfter list count w h sx sy dx dy n region region′ → RegionAfter other count w h sx sy dx dy n region region′
+  pub sheet-moved : {M G : Type 0} {way : Way} {n : ℕ} {sheet sheet′ : List ℕ} → AskingGives m M G n
+      → DistancesAfter (m .width) (m .height) (ClosedBy m) way n sheet sheet′
+      → DistancesAfter (m .width) (m .height) (ClosedBy (with-list m other)) way n sheet sheet′
+  sheet-moved g l = record { kept = l .kept; filled = λ z. rw (asked-in-use g (λ t. omega (arith, t .0))) at (l .filled z) }
+
+  pub region-moved : {M G : Type 0} {sx sy dx dy n : ℕ} {region region′ : List ℕ} → AskingGives m M G n
+      → RegionAfter (m .width) (m .height) (ClosedBy m) sx sy dx dy n region region′
+      → RegionAfter (m .width) (m .height) (ClosedBy (with-list m other)) sx sy dx dy n region region′
   region-moved {n} g l =
-      record { kept = l .kept; none = l .none; made = λ t. rw (asked-in-use g (λ e. t (omega (arith, e)))) at (l .made t) }
+      record {
+        kept = l .kept;
+        size = l .size;
+        zeros = l .zeros;
+        made = λ t. rw (asked-in-use g (λ e. t (omega (arith, e)))) at (l .made t);
+      }
+
+  pub route-moved : {M G : Type 0} {sx sy dx dy n i state state′ : ℕ} {route route′ : List ℕ} → AskingGives m M G n
+      → RouteAfter (m .width) (m .height) (ClosedBy m) sx sy dx dy n i route state route′ state′
+      → RouteAfter (m .width) (m .height) (ClosedBy (with-list m other)) sx sy dx dy n i route state route′ state′
+  route-moved g l =
+      record {
+        none = l .none;
+        kept = l .kept;
+        still = l .still;
+        long = l .long;
+        driven = λ z. rw (asked-in-use g (λ t. omega (arith, t .0))) at (l .driven z);
+        rest = l .rest;
+      }
 
 -- The table of a call that is lent no sheet, opened: 1, 3, and what its own rows give.
-abbrev pub Listed : List Marker → ℕ → ℕ → ℕ → Type 0 → ℕ → Type 0
-Listed list count w h Own n =
-    ((¬ Sides w h) × (n ≡ bad-size))
-    ⊎ ((¬ ¬ Sides w h) × (((¬ WellFormed w h list count) × (n ≡ bad-list)) ⊎ ((¬ ¬ WellFormed w h list count) × Own)))
+abbrev pub ListGives : LentMap → Type 0 → ℕ → Type 0
+ListGives m Own n =
+    ((¬ Sized m) × (n ≡ bad-size)) ⊎ ((¬ ¬ Sized m) × (((¬ Formed m) × (n ≡ bad-list)) ⊎ ((¬ ¬ Formed m) × Own)))
 
-pub listed-moved : {list other : List Marker} {count w h n : ℕ} {G K : Type 0} → Agree list other count → Listed list count w h G n
-    → (count ≤ length list → G → K) → Listed other count w h K n
+pub listed-moved : {m : LentMap} {other : List Marker} {n : ℕ} {G K : Type 0} → Agree (m .list) other (m .count) → ListGives m G n
+    → (m .count ≤ length (m .list) → G → K) → ListGives (with-list m other) K n
 listed-moved a (inl p) f = inl p
 listed-moved a (inr (s, inl p)) f = inr (s, inl (λ t. p .0 (formed-moved (agree-turned a) t), p .1))
 listed-moved a (inr (s, inr p)) f = inr (s, inr (λ t. p .0 (λ u. t (formed-moved a u)), f (formed-holds (p .0) .lent) (p .1)))
 
--- Entering and clearing leave the slots in use equal again: the same id stands or belongs at the same place in both.
+-- Entering and clearing leave the slots in use equal again: the same id stands or belongs at the
+-- same place in both.
 entered-place : {list other list′ other′ : List Marker} {count : ℕ} {m : Marker} → SameSlots list other count → (p : Entered list count m list′)
     (q : Entered other count m other′) → p .place ≤ q .place
 entered-place {count = count} {m = m} s p q = go (decLt (q .place) (p .place))

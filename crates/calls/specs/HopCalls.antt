@@ -1,5 +1,6 @@
--- The hop call on a cart's way: at an assured place it is not refused, the crossings that it names are the permitted hops, and it says "there" exactly
--- at home. So a journey is a sequence of permitted hops from an assured place.
+-- The hop call on a cart's way: at an assured place it is not refused, the crossings that it names
+-- are the permitted hops, and it says "there" exactly at home. So a journey is a sequence of
+-- permitted hops from an assured place.
 use mathlib.Core.Path.{_≡_, refl, sym, ap, subst₂, _∙_}
 use mathlib.Core.Bool.{true}
 use mathlib.Core.List.{List, [], _∷_}
@@ -7,57 +8,54 @@ use mathlib.Core.Logic.{_↔_, _⊎_, inl, inr}
 use Prim.Native.Nat.{ℕ, _+_, _*_, _≤_}
 use native.Mathlib.Omega.{arith}
 use lib.ListN.{length}
-use Rattle.field.specs.declared.Marker.{Marker}
-use Rattle.field.specs.Map.{Sides, On}
-use Rattle.field.specs.Labels.{Closed}
 use Rattle.field.specs.Distances.{Assured}
 use Rattle.field.specs.Hops.{Permitted, There, HopAnswer, Answers, at-home, just, both, Taken, none, hop}
 use Rattle.field.specs.Geometry.WayHome.{taken-assured}
 use Rattle.field.specs.Workings.HopLaws.{ByRow, ByColumn, permitted-which, permitted-other, permitted-away}
-use Rattle.markers.specs.List.{WellFormed}
 use Rattle.calls.specs.Rules
-use Rattle.calls.specs.Rules.{Gives, gives-one, ClosedBy}
+use Rattle.calls.specs.Rules.{Gives, gives-one, LentMap, Sized, OnIt, Formed, ClosedBy}
 use Rattle.calls.specs.RuleLaws.{gives-none, none-gives, sheets-fit, sides-hold, formed-holds}
-use Rattle.answers.specs.Promise.{homeward}
+use Rattle.calls.specs.Answers.{homeward}
 use Rattle.calls.specs.Calls.{AssuredCall, HopCall}
 use Rattle.calls.specs.Sequences.{Names, SaysThere, Journey, start, move}
-use Rattle.answers.specs.declared.Assurance.{Assurance}
-use Rattle.answers.specs.declared.Homeward.{Homeward}
+use Rattle.calls.specs.declared.Assurance.{Assurance}
+use Rattle.calls.specs.declared.Homeward.{Homeward}
 
 -- What a cart knows whose home is assured: the map, the list and the assurance.
-pub record Assurances (list : List Marker) (count w h hx hy x y : ℕ) : Type 0 where
-  pub sides : Sides w h
-  pub formed : WellFormed w h list count
-  pub assured : Assured w h (ClosedBy list count w h) hx hy x y
+pub record Assurances (m : LentMap) (hx hy x y : ℕ) : Type 0 where
+  pub sides : Sized m
+  pub formed : Formed m
+  pub assured : Assured (m .width) (m .height) (ClosedBy m) hx hy x y
 
-pub assured-yes : {list : List Marker} {count w h hx hy x y : ℕ} {labels labels′ : List ℕ} {r : Assurance}
-    → AssuredCall list count w h hx hy x y labels labels′ r → r .refusal ≡ 0 → r .assured ≡ true → Assurances list count w h hx hy x y
-assured-yes {list} {count} {w} {h} {hx} {hy} {x} {y} {labels} {r = r} c z e =
-    let t = gives-none (Rules.assured-table list count w h hx hy x y labels) 0 (r .refusal) (omega arith) (c .given) z in
+pub assured-yes : {m : LentMap} {hx hy x y : ℕ} {labels labels′ : List ℕ} {r : Assurance}
+    → AssuredCall m hx hy x y labels labels′ r → r .refusal ≡ 0 → r .assured ≡ true → Assurances m hx hy x y
+assured-yes {m} {hx} {hy} {x} {y} {labels} {r = r} c z e =
+    let t = gives-none (Rules.assured-table m hx hy x y labels) 0 (r .refusal) (omega arith) (c .given) z in
     record { sides = sides-hold (t .0); formed = formed-holds (t .1 .1 .0); assured = c .done z .0 e }
 
 -- No row of the hop call applies.
-pub hop-passes : {list : List Marker} {count w h hx hy x y : ℕ} (labels : List ℕ) → Assurances list count w h hx hy x y → length labels ≡ h * w
-    → Gives (Rules.hop-table list count w h hx hy x y labels) 0
-hop-passes {list} {count} {w} {h} {hx} {hy} {x} {y} labels k e =
-    none-gives (Rules.hop-table list count w h hx hy x y labels) 0 refl
-    (λ n. n (k .sides), (sheets-fit w h labels [] e (λ n. n), (λ n. n (k .formed), (places, (ends, (λ n. n (k .assured), tt))))))
+pub hop-passes : {m : LentMap} {hx hy x y : ℕ} (labels : List ℕ) → Assurances m hx hy x y → length labels ≡ m .height * m .width
+    → Gives (Rules.hop-table m hx hy x y labels) 0
+hop-passes {m} {hx} {hy} {x} {y} labels k e =
+    none-gives (Rules.hop-table m hx hy x y labels) 0 refl
+    (λ n. n (k .sides), (sheets-fit (m .width) (m .height) labels [] e (λ n. n), (λ n. n (k .formed), (places, (ends, (λ n. n (k .assured), tt))))))
   where
-    places : ¬ ((¬ On w h hx hy) ⊎ (¬ On w h x y))
+    places : ¬ ((¬ OnIt m hx hy) ⊎ (¬ OnIt m x y))
     places (inl n) = n (k .assured .home .on)
     places (inr n) = n (k .assured .place .on)
 
-    ends : ¬ (ClosedBy list count w h hx hy ⊎ ClosedBy list count w h x y)
+    ends : ¬ (ClosedBy m hx hy ⊎ ClosedBy m x y)
     ends (inl n) = k .assured .home .free n
     ends (inr n) = k .assured .place .free n
 
-module _ {list : List Marker} {count w h hx hy x y : ℕ} {labels labels′ : List ℕ} {r : Homeward}
-    (c : HopCall list count w h hx hy x y labels labels′ r) where
-  pub hop-not-refused : Assurances list count w h hx hy x y → length labels ≡ h * w → r .refusal ≡ 0
-  hop-not-refused k e = gives-one (Rules.hop-table list count w h hx hy x y labels) _ _ (c .given) (hop-passes labels k e)
+module _ {m : LentMap} {hx hy x y : ℕ} {labels labels′ : List ℕ} {r : Homeward}
+    (c : HopCall m hx hy x y labels labels′ r) where
+  pub hop-not-refused : Assurances m hx hy x y → length labels ≡ m .height * m .width → r .refusal ≡ 0
+  hop-not-refused k e = gives-one (Rules.hop-table m hx hy x y labels) _ _ (c .given) (hop-passes labels k e)
 
 module _ {w h : ℕ} {C : ℕ → ℕ → Type 0} {hx hy x y : ℕ} where
-  -- A permitted hop that keeps the row is the hop along the row, and one that keeps the column is the hop along the column.
+  -- A permitted hop that keeps the row is the hop along the row, and one that keeps the column is
+  -- the hop along the column.
   by-row : {a b : ℕ} → Permitted w h C hx hy x y a b → b ≡ y → ByRow hx x y a b
   by-row {a} {b} p e = go (permitted-which p)
     where
@@ -72,7 +70,8 @@ module _ {w h : ℕ} {C : ℕ → ℕ → Type 0} {hx hy x y : ℕ} where
       go (inl q) = absurd (permitted-other p (e, q .1))
       go (inr q) = q
 
--- The answer by its fields: "there", one permitted hop and no other, or two, the east-west one first.
+-- The answer by its fields: "there", one permitted hop and no other, or two, the east-west one
+-- first.
 data Reply (w h : ℕ) (C : ℕ → ℕ → Type 0) (hx hy x y : ℕ) (r : Homeward) : Type 0 where
   says-there : There hx hy x y → r .hops ≡ 0 → Reply w h C hx hy x y r
   names-one : Permitted w h C hx hy x y (r .x) (r .y) → ((c d : ℕ) → Permitted w h C hx hy x y c d → (c ≡ r .x) × (d ≡ r .y)) → r .hops ≡ 1
@@ -124,13 +123,14 @@ module _ {w h : ℕ} {C : ℕ → ℕ → Type 0} {hx hy x y : ℕ} {r : Homewar
   some (names-one p o e) n = (r .x, r .y, inl (omega arith, refl, refl))
   some (names-two p u q v e) n = (r .x, r .y, inl (omega arith, refl, refl))
 
-module _ {list : List Marker} {count w h hx hy x y : ℕ} {labels labels′ : List ℕ} {r : Homeward}
-    (c : HopCall list count w h hx hy x y labels labels′ r) (z : r .refusal ≡ 0) where
-  reply : Reply w h (ClosedBy list count w h) hx hy x y r
-  reply = let d = c .done z in reply-of (d .1) (d .2)
+module _ {m : LentMap} {hx hy x y : ℕ} {labels labels′ : List ℕ} {r : Homeward}
+    (c : HopCall m hx hy x y labels labels′ r) (z : r .refusal ≡ 0) where
+  reply : Reply (m .width) (m .height) (ClosedBy m) hx hy x y r
+  reply = let d = c .done z in reply-of (d .answers) (d .is)
 
-  -- The crossings that the answer names are exactly the permitted hops; it is "there" exactly at home, and else it names one at least.
-  pub hop-names : (a b : ℕ) → Names r a b ↔ Permitted w h (ClosedBy list count w h) hx hy x y a b
+  -- The crossings that the answer names are exactly the permitted hops; it is "there" exactly at
+  -- home, and else it names one at least.
+  pub hop-names : (a b : ℕ) → Names r a b ↔ Permitted (m .width) (m .height) (ClosedBy m) hx hy x y a b
   hop-names a b = (named a b reply, name a b reply)
 
   pub hop-there : SaysThere r ↔ There hx hy x y
@@ -140,10 +140,10 @@ module _ {list : List Marker} {count w h hx hy x y : ℕ} {labels labels′ : Li
   hop-some = some reply
 
 -- A journey is a sequence of permitted hops, and keeps what the cart knows.
-module _ {list : List Marker} {count w h hx hy x y : ℕ} where
-  pub journey-taken : {n a b : ℕ} → Journey list count w h hx hy x y n a b → Taken w h (ClosedBy list count w h) hx hy x y n a b
+module _ {m : LentMap} {hx hy x y : ℕ} where
+  pub journey-taken : {n a b : ℕ} → Journey m hx hy x y n a b → Taken (m .width) (m .height) (ClosedBy m) hx hy x y n a b
   journey-taken (start e p q) = none e p q
   journey-taken (move {c} {d} j k z n e) = hop (journey-taken j) (hop-names k z c d .0 n) e
 
-  pub journey-assured : {n a b : ℕ} → Assurances list count w h hx hy x y → Journey list count w h hx hy x y n a b → Assurances list count w h hx hy a b
+  pub journey-assured : {n a b : ℕ} → Assurances m hx hy x y → Journey m hx hy x y n a b → Assurances m hx hy a b
   journey-assured k j = record { sides = k .sides; formed = k .formed; assured = taken-assured (k .assured) (journey-taken j) }

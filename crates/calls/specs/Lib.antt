@@ -1,7 +1,14 @@
--- The public calls: their refusals, one promise a call, and what is proved of the promises.
+-- The public calls: their refusals, what they answer and leave, one promise a call, and what is
+-- proved of the promises.
+pub mod LentMap
+pub mod Rule
 pub mod Rules
-pub mod RuleLaws
+pub mod Answers
 pub mod Calls
+pub mod RuleLaws
+pub mod Parts
+pub mod AfterLaws
+pub mod SameLaws
 pub mod OutcomeLaws
 pub mod Exactly
 pub mod Outcome

@@ -1,29 +1,27 @@
--- One outcome: for every input, refusals too, two outcomes that a call's promise allows are equal, the answer and every lent byte, slot and number.
--- The table gives one number; at 0 each meaning has one value, and at a refusal everything is said outright.
-use mathlib.Core.Path.{_≡_, sym, ap, _∙_}
+-- One outcome: for every input, refusals too, two outcomes that a call's promise allows are equal,
+-- the answer and every lent byte, slot and number. The table gives one number; at 0 each meaning
+-- has one value, and at a refusal everything is said outright.
+use mathlib.Core.Path.{_≡_, sym, ap, ap₂, _∙_}
 use mathlib.Core.List.{List, _++_}
-use mathlib.Core.Logic.{_⊎_, inl, inr}
-use Prim.Native.Nat.{ℕ, _+_}
+use mathlib.Core.Logic.{inl, inr}
+use Prim.Native.Nat.{ℕ}
 use native.Mathlib.Omega.{arith}
 use native.Mathlib.Decide.{ℕ-discrete}
-use lib.ListN.{length, take, drop, take-append-drop}
+use lib.ListN.{length, drop}
 use Rattle.field.specs.declared.Marker.{Marker}
-use Rattle.field.specs.Refusals.{no-slot}
 use Rattle.field.specs.Workings.Counting.{count-one}
 use Rattle.field.specs.Workings.DistanceLaws
-use Rattle.field.specs.Workings.DistanceLaws.{distance-sheet-one}
 use Rattle.field.specs.Workings.HopLaws.{answers-one}
 use Rattle.field.specs.Workings.ChooserLaws.{driven-one}
-use Rattle.markers.specs.List.{inUse}
 use Rattle.markers.specs.Laws.Entering.{entered-one}
 use Rattle.markers.specs.Laws.Clearing.{cleared-one}
-use Rattle.mapfile.specs.File.{MapFile, FileFault, NoSlot, markersOf}
+use Rattle.mapfile.specs.File.{MapFile, NoSlot, markersOf}
 use Rattle.mapfile.specs.FileLaws.{map-file-one, fault-one, fault-no-map}
 use Rattle.mapfile.specs.WrittenLaws.{written-one}
 use Rattle.calls.specs.Rules
-use Rattle.calls.specs.Rules.{gives-one, RocksOf, ClosedBy}
+use Rattle.calls.specs.Rules.{gives-one, LentMap, markersIn, RocksOf, ClosedBy}
 use Rattle.calls.specs.RuleLaws.{gives-none, formed-holds}
-use Rattle.answers.specs.Promise.{homeward, no-hop}
+use Rattle.calls.specs.Answers.{no-count, no-labelling, no-four, no-assurance, no-hop, no-map, no-bytes, homeward, ReadFault}
 use Rattle.calls.specs.Calls.{
   EnterCall,
   ClearCall,
@@ -41,6 +39,9 @@ use Rattle.calls.specs.Calls.{
 use Rattle.calls.specs.OutcomeLaws.{
   labels-after-one,
   region-after-one,
+  distances-after-one,
+  route-after-one,
+  refused-one,
   counted-same,
   drove-same,
   wrote-same,
@@ -52,219 +53,172 @@ use Rattle.calls.specs.OutcomeLaws.{
   rocks-told,
 }
 use Rattle.calls.specs.declared.Counted.{Counted}
-use Rattle.askings.specs.declared.Labelling.{Labelling}
-use Rattle.askings.specs.declared.Four.{Four}
-use Rattle.answers.specs.declared.Assurance.{Assurance}
-use Rattle.answers.specs.declared.Homeward.{Homeward}
-use Rattle.answers.specs.declared.Drove.{Drove}
-use Rattle.exchange.specs.declared.ReadMap.{ReadMap}
-use Rattle.exchange.specs.declared.WroteMap.{WroteMap}
+use Rattle.calls.specs.declared.Labelling.{Labelling}
+use Rattle.calls.specs.declared.Four.{Four}
+use Rattle.calls.specs.declared.Assurance.{Assurance}
+use Rattle.calls.specs.declared.Homeward.{Homeward}
+use Rattle.calls.specs.declared.Drove.{Drove}
+use Rattle.calls.specs.declared.ReadMap.{ReadMap}
+use Rattle.calls.specs.declared.WroteMap.{WroteMap}
 
-module _ {list : List Marker} {count w h : ℕ} where
-  pub enter-one : {id x y : ℕ} {a b : List Marker} {r s : Counted} → EnterCall list count w h id x y a r → EnterCall list count w h id x y b s
-      → (r ≡ s) × (a ≡ b)
+module _ {m : LentMap} where
+  pub enter-one : {id x y : ℕ} {a b : List Marker} {r s : Counted} → EnterCall m id x y a r → EnterCall m id x y b s → (r ≡ s) × (a ≡ b)
   enter-one {id} {x} {y} {a} {b} {r} {s} p q = go (ℕ-discrete (r .refusal) 0)
     where
       e : r .refusal ≡ s .refusal
-      e = gives-one (Rules.enter-table list count w h id x y) _ _ (p .given) (q .given)
+      e = gives-one (Rules.enter-table m id x y) _ _ (p .given) (q .given)
 
       go : Dec (r .refusal ≡ 0) → (r ≡ s) × (a ≡ b)
       go (yes z) =
           let u = p .done z in
           let v = q .done (sym e ∙ z) in
-          (counted-same e (u .1 ∙ sym (v .1)), entered-one (u .0) (v .0))
+          (counted-same e (u .counted ∙ sym (v .counted)), entered-one (u .list) (v .list))
       go (no z) =
-          let u = p .refused z in
-          let v = q .refused (λ k. z (e ∙ k)) in
-          (counted-same e (u .1 ∙ sym (v .1)), u .0 ∙ sym (v .0))
+          let z′ : ¬ (s .refusal ≡ 0) = λ k. z (e ∙ k) in
+          (refused-one no-count e (p .refused z) (q .refused z′), p .kept z ∙ sym (q .kept z′))
 
-  pub clear-one : {id : ℕ} {a b : List Marker} {r s : Counted} → ClearCall list count w h id a r → ClearCall list count w h id b s → (r ≡ s) × (a ≡ b)
+  pub clear-one : {id : ℕ} {a b : List Marker} {r s : Counted} → ClearCall m id a r → ClearCall m id b s → (r ≡ s) × (a ≡ b)
   clear-one {id} {a} {b} {r} {s} p q = go (ℕ-discrete (r .refusal) 0)
     where
       e : r .refusal ≡ s .refusal
-      e = gives-one (Rules.clear-table list count w h id) _ _ (p .given) (q .given)
+      e = gives-one (Rules.clear-table m id) _ _ (p .given) (q .given)
 
       go : Dec (r .refusal ≡ 0) → (r ≡ s) × (a ≡ b)
       go (yes z) =
           let u = p .done z in
           let v = q .done (sym e ∙ z) in
-          let none = gives-none (Rules.clear-table list count w h id) 0 (r .refusal) (omega arith) (p .given) z in
-          (counted-same e (omega (arith, u .1, v .1)), cleared-one (formed-holds (none .1 .0) .rising) (u .0) (v .0))
+          let none = gives-none (Rules.clear-table m id) 0 (r .refusal) (omega arith) (p .given) z in
+          (counted-same e (omega (arith, u .counted, v .counted)), cleared-one (formed-holds (none .1 .0) .rising) (u .list) (v .list))
       go (no z) =
-          let u = p .refused z in
-          let v = q .refused (λ k. z (e ∙ k)) in
-          (counted-same e (u .1 ∙ sym (v .1)), u .0 ∙ sym (v .0))
+          let z′ : ¬ (s .refusal ≡ 0) = λ k. z (e ∙ k) in
+          (refused-one no-count e (p .refused z) (q .refused z′), p .kept z ∙ sym (q .kept z′))
 
-  pub label-one : {labels a b : List ℕ} {r s : Labelling} → LabelCall list count w h labels a r → LabelCall list count w h labels b s → (r ≡ s) × (a ≡ b)
+  pub label-one : {labels a b : List ℕ} {r s : Labelling} → LabelCall m labels a r → LabelCall m labels b s → (r ≡ s) × (a ≡ b)
   label-one {labels} {a} {b} {r} {s} p q = (go (ℕ-discrete (r .refusal) 0), labels-after-one e (p .labels-after) (q .labels-after))
     where
       e : r .refusal ≡ s .refusal
-      e = gives-one (Rules.label-table list count w h labels) _ _ (p .given) (q .given)
+      e = gives-one (Rules.label-table m labels) _ _ (p .given) (q .given)
 
       go : Dec (r .refusal ≡ 0) → r ≡ s
       go (yes z) =
           let u = p .done z in
           let v = q .done (sym e ∙ z) in
-          labelling-same e (count-one w h (u .0) (v .0)) (count-one w h (u .1) (v .1)) (count-one w h (u .2) (v .2))
-      go (no z) =
-          let u = p .refused z in
-          let v = q .refused (λ k. z (e ∙ k)) in
-          labelling-same e (u .0 ∙ sym (v .0)) (u .1 ∙ sym (v .1)) (u .2 ∙ sym (v .2))
+          labelling-same e (count-one (m .width) (m .height) (u .rocks) (v .rocks)) (count-one (m .width) (m .height) (u .shut) (v .shut))
+          (count-one (m .width) (m .height) (u .groups) (v .groups))
+      go (no z) = refused-one no-labelling e (p .refused z) (q .refused (λ k. z (e ∙ k)))
 
-  pub distances-one : {x y : ℕ} {labels a b : List ℕ} {r s : Four} → DistancesCall list count w h x y labels a r
-      → DistancesCall list count w h x y labels b s → (r ≡ s) × (a ≡ b)
-  distances-one {x} {y} {labels} {a} {b} {r} {s} p q =
-      (four-same e (go (ℕ-discrete (r .refusal) 0)), labels-after-one e (p .labels-after) (q .labels-after))
+  pub distances-one : {x y : ℕ} {labels a b : List ℕ} {r s : Four} → DistancesCall m x y labels a r → DistancesCall m x y labels b s → (r ≡ s) × (a ≡ b)
+  distances-one {x} {y} {labels} {a} {b} {r} {s} p q = (go (ℕ-discrete (r .refusal) 0), labels-after-one e (p .labels-after) (q .labels-after))
     where
       e : r .refusal ≡ s .refusal
-      e = gives-one (Rules.distances-table list count w h x y labels) _ _ (p .given) (q .given)
+      e = gives-one (Rules.distances-table m x y labels) _ _ (p .given) (q .given)
 
-      go : Dec (r .refusal ≡ 0) → r .four ≡ s .four
-      go (yes z) = DistanceLaws.distances-one (p .done z) (q .done (sym e ∙ z))
-      go (no z) = p .refused z ∙ sym (q .refused (λ k. z (e ∙ k)))
+      go : Dec (r .refusal ≡ 0) → r ≡ s
+      go (yes z) = four-same e (DistanceLaws.distances-one (p .done z) (q .done (sym e ∙ z)))
+      go (no z) = refused-one no-four e (p .refused z) (q .refused (λ k. z (e ∙ k)))
 
-  pub measure-one : {labels e s f n a e₁ s₁ f₁ n₁ b e₂ s₂ f₂ n₂ : List ℕ} {r t : ℕ}
-      → MeasureCall list count w h labels e s f n a e₁ s₁ f₁ n₁ r → MeasureCall list count w h labels e s f n b e₂ s₂ f₂ n₂ t
-      → (r ≡ t) × (a ≡ b) × (e₁ ≡ e₂) × (s₁ ≡ s₂) × (f₁ ≡ f₂) × (n₁ ≡ n₂)
-  measure-one {labels} {e} {s} {f} {n} {e₁ = e₁} {s₁ = s₁} {f₁ = f₁} {n₁ = n₁} {e₂ = e₂} {s₂ = s₂} {f₂ = f₂} {n₂ = n₂} {r = r} {t = t} p q =
-      let sheets = go (ℕ-discrete r 0) in
-      (same, labels-after-one same (p .labels-after) (q .labels-after), sheets .0, sheets .1, sheets .2, sheets .3)
-    where
-      same : r ≡ t
-      same = gives-one (Rules.measure-table list count w h labels e s f n) _ _ (p .given) (q .given)
+  pub measure-one : {labels e s f n a e₁ s₁ f₁ n₁ b e₂ s₂ f₂ n₂ : List ℕ} {r t : ℕ} → MeasureCall m labels e s f n a e₁ s₁ f₁ n₁ r
+      → MeasureCall m labels e s f n b e₂ s₂ f₂ n₂ t → (r ≡ t) × (a ≡ b) × (e₁ ≡ e₂) × (s₁ ≡ s₂) × (f₁ ≡ f₂) × (n₁ ≡ n₂)
+  measure-one {labels} {e} {s} {f} {n} {r = r} {t = t} p q =
+      let same : r ≡ t = gives-one (Rules.measure-table m labels e s f n) _ _ (p .given) (q .given) in (
+        same,
+        labels-after-one same (p .labels-after) (q .labels-after),
+        distances-after-one same (p .east-after) (q .east-after),
+        distances-after-one same (p .south-after) (q .south-after),
+        distances-after-one same (p .west-after) (q .west-after),
+        distances-after-one same (p .north-after) (q .north-after),
+      )
 
-      go : Dec (r ≡ 0) → (e₁ ≡ e₂) × (s₁ ≡ s₂) × (f₁ ≡ f₂) × (n₁ ≡ n₂)
-      go (yes z) =
-          let u = p .done z in
-          let v = q .done (sym same ∙ z) in (
-            distance-sheet-one (u .0) (v .0),
-            distance-sheet-one (u .1) (v .1),
-            distance-sheet-one (u .2) (v .2),
-            distance-sheet-one (u .3) (v .3),
-          )
-      go (no z) =
-          let u = p .refused z in
-          let v = q .refused (λ k. z (same ∙ k)) in
-          (u .0 ∙ sym (v .0), u .1 ∙ sym (v .1), u .2 ∙ sym (v .2), u .3 ∙ sym (v .3))
-
-  pub assured-one : {hx hy x y : ℕ} {labels a b : List ℕ} {r s : Assurance} → AssuredCall list count w h hx hy x y labels a r
-      → AssuredCall list count w h hx hy x y labels b s → (r ≡ s) × (a ≡ b)
-  assured-one {hx} {hy} {x} {y} {labels} {a} {b} {r} {s} p q =
-      (assurance-same e (go (ℕ-discrete (r .refusal) 0)), labels-after-one e (p .labels-after) (q .labels-after))
+  pub assured-one : {hx hy x y : ℕ} {labels a b : List ℕ} {r s : Assurance} → AssuredCall m hx hy x y labels a r
+      → AssuredCall m hx hy x y labels b s → (r ≡ s) × (a ≡ b)
+  assured-one {hx} {hy} {x} {y} {labels} {a} {b} {r} {s} p q = (go (ℕ-discrete (r .refusal) 0), labels-after-one e (p .labels-after) (q .labels-after))
     where
       e : r .refusal ≡ s .refusal
-      e = gives-one (Rules.assured-table list count w h hx hy x y labels) _ _ (p .given) (q .given)
+      e = gives-one (Rules.assured-table m hx hy x y labels) _ _ (p .given) (q .given)
 
-      go : Dec (r .refusal ≡ 0) → r .assured ≡ s .assured
-      go (yes z) = both-true (r .assured) (s .assured) (p .done z) (q .done (sym e ∙ z))
-      go (no z) = p .refused z ∙ sym (q .refused (λ k. z (e ∙ k)))
+      go : Dec (r .refusal ≡ 0) → r ≡ s
+      go (yes z) = assurance-same e (both-true (r .assured) (s .assured) (p .done z) (q .done (sym e ∙ z)))
+      go (no z) = refused-one no-assurance e (p .refused z) (q .refused (λ k. z (e ∙ k)))
 
-  pub hop-one : {hx hy x y : ℕ} {labels a b : List ℕ} {r s : Homeward} → HopCall list count w h hx hy x y labels a r
-      → HopCall list count w h hx hy x y labels b s → (r ≡ s) × (a ≡ b)
-  hop-one {hx} {hy} {x} {y} {labels} {a} {b} {r} {s} p q =
-      (go (ℕ-discrete (r .refusal) 0), labels-after-one e (p .labels-after) (q .labels-after))
+  pub hop-one : {hx hy x y : ℕ} {labels a b : List ℕ} {r s : Homeward} → HopCall m hx hy x y labels a r → HopCall m hx hy x y labels b s
+      → (r ≡ s) × (a ≡ b)
+  hop-one {hx} {hy} {x} {y} {labels} {a} {b} {r} {s} p q = (go (ℕ-discrete (r .refusal) 0), labels-after-one e (p .labels-after) (q .labels-after))
     where
       e : r .refusal ≡ s .refusal
-      e = gives-one (Rules.hop-table list count w h hx hy x y labels) _ _ (p .given) (q .given)
+      e = gives-one (Rules.hop-table m hx hy x y labels) _ _ (p .given) (q .given)
 
       go : Dec (r .refusal ≡ 0) → r ≡ s
       go (yes z) =
           let u = p .done z in
           let v = q .done (sym e ∙ z) in
-          u .2 ∙ ap homeward (answers-one (u .1) (v .1)) ∙ sym (v .2)
-      go (no z) = p .refused z ∙ ap no-hop e ∙ sym (q .refused (λ k. z (e ∙ k)))
+          u .is ∙ ap homeward (answers-one (u .answers) (v .answers)) ∙ sym (v .is)
+      go (no z) = refused-one no-hop e (p .refused z) (q .refused (λ k. z (e ∙ k)))
 
-  pub region-one : {sx sy dx dy : ℕ} {labels region a c b d : List ℕ} {r s : ℕ} → RegionCall list count w h sx sy dx dy labels region a c r
-      → RegionCall list count w h sx sy dx dy labels region b d s → (r ≡ s) × (a ≡ b) × (c ≡ d)
+  pub region-one : {sx sy dx dy : ℕ} {labels region a c b d : List ℕ} {r s : ℕ} → RegionCall m sx sy dx dy labels region a c r
+      → RegionCall m sx sy dx dy labels region b d s → (r ≡ s) × (a ≡ b) × (c ≡ d)
   region-one {sx} {sy} {dx} {dy} {labels} {region} {r = r} {s = s} p q =
+      let e : r ≡ s = gives-one (Rules.region-table m sx sy dx dy labels region) _ _ (p .given) (q .given) in
       (e, labels-after-one e (p .labels-after) (q .labels-after), region-after-one e (p .region-after) (q .region-after))
-    where
-      e : r ≡ s
-      e = gives-one (Rules.region-table list count w h sx sy dx dy labels region) _ _ (p .given) (q .given)
 
-  pub drive-one : {sx sy dx dy : ℕ} {labels region route a c m b d n : List ℕ} {state z z′ : ℕ} {r s : Drove}
-      → DriveCall list count w h sx sy dx dy labels region route state a c m z r
-      → DriveCall list count w h sx sy dx dy labels region route state b d n z′ s
-      → (r ≡ s) × (a ≡ b) × (c ≡ d) × (m ≡ n) × (z ≡ z′)
-  drive-one {sx} {sy} {dx} {dy} {labels} {region} {route} {m = m} {n = n} {z = z} {z′ = z′} {r = r} {s = s} p q =
-      let t = go (ℕ-discrete (r .refusal) 0) in (
+  pub drive-one : {sx sy dx dy : ℕ} {labels region route a c i b d j : List ℕ} {state z z′ : ℕ} {r s : Drove}
+      → DriveCall m sx sy dx dy labels region route state a c i z r → DriveCall m sx sy dx dy labels region route state b d j z′ s
+      → (r ≡ s) × (a ≡ b) × (c ≡ d) × (i ≡ j) × (z ≡ z′)
+  drive-one {sx} {sy} {dx} {dy} {labels} {region} {route} {r = r} {s = s} p q =
+      let e : r .refusal ≡ s .refusal = gives-one (Rules.drive-table m sx sy dx dy labels region route) _ _ (p .given) (q .given) in
+      let t = route-after-one e (p .route-after) (q .route-after) in (
         drove-same e (t .0),
         labels-after-one e (p .labels-after) (q .labels-after),
         region-after-one e (p .region-after) (q .region-after),
         t .1,
         t .2,
       )
-    where
-      e : r .refusal ≡ s .refusal
-      e = gives-one (Rules.drive-table list count w h sx sy dx dy labels region route) _ _ (p .given) (q .given)
 
-      -- The route is its filled part and the rest.
-      whole : (k j : ℕ) → k ≡ j → take k m ≡ take j n → drop k m ≡ drop k route → drop j n ≡ drop j route → m ≡ n
-      whole k j f front back back′ =
-          sym (take-append-drop k m) ∙ ap (λ (l : List ℕ). l ++ drop k m) front
-          ∙ ap (λ (l : List ℕ). take j n ++ l) (back ∙ ap (λ (i : ℕ). drop i route) f ∙ sym back′) ∙ take-append-drop j n
-
-      go : Dec (r .refusal ≡ 0) → (r .length ≡ s .length) × (m ≡ n) × (z ≡ z′)
-      go (yes k) =
-          let u = p .done k in
-          let v = q .done (sym e ∙ k) in
-          let f = u .1 ∙ sym (v .1) in
-          let o = driven-one w h (ClosedBy list count w h) sx sy dx dy (u .0) (v .0) in
-          (f, whole (r .length) (s .length) f (o .0) (u .2) (v .2), o .1)
-      go (no k) =
-          let u = p .refused k in
-          let v = q .refused (λ j. k (e ∙ j)) in
-          (u .0 ∙ sym (v .0), u .1 ∙ sym (v .1), u .2 ∙ sym (v .2))
-
-  pub route-one : {sx sy dx dy : ℕ} {labels region route a c m b d n : List ℕ} {state r s z z′ : ℕ}
-      → RouteCall list count w h sx sy dx dy labels region route state a c m r z
-      → RouteCall list count w h sx sy dx dy labels region route state b d n s z′
-      → (m ≡ n) × (r ≡ s) × (z ≡ z′) × (a ≡ b) × (c ≡ d)
-  route-one {sx} {sy} {dx} {dy} {labels} {region} {route} {m = m} {n = n} {r = r} {s = s} {z = z} {z′ = z′} p q =
+  pub route-one : {sx sy dx dy : ℕ} {labels region route a c i b d j : List ℕ} {state r s z z′ : ℕ} {from at at′ : ℕ × ℕ}
+      → RouteCall m sx sy dx dy labels region route state a c i r z from at → RouteCall m sx sy dx dy labels region route state b d j s z′ from at′
+      → (i ≡ j) × (r ≡ s) × (z ≡ z′) × (a ≡ b) × (c ≡ d) × (at ≡ at′)
+  route-one {sx} {sy} {dx} {dy} {labels} {region} {route} {i = i} {j = j} {r = r} {s = s} {z = z} {z′ = z′} p q =
       let t = go (ℕ-discrete r 0) in
-      (t .0, e, t .1, labels-after-one e (p .labels-after) (q .labels-after), region-after-one e (p .region-after) (q .region-after))
+      (t .0, e, t .1, labels-after-one e (p .labels-after) (q .labels-after), region-after-one e (p .region-after) (q .region-after), p .leading ∙ sym (q .leading))
     where
       e : r ≡ s
-      e = gives-one (Rules.drive-table list count w h sx sy dx dy labels region route) _ _ (p .given) (q .given)
+      e = gives-one (Rules.drive-table m sx sy dx dy labels region route) _ _ (p .given) (q .given)
 
-      go : Dec (r ≡ 0) → (m ≡ n) × (z ≡ z′)
-      go (yes k) = driven-one w h (ClosedBy list count w h) sx sy dx dy (p .done k) (q .done (sym e ∙ k))
+      go : Dec (r ≡ 0) → (i ≡ j) × (z ≡ z′)
+      go (yes k) = driven-one (m .width) (m .height) (ClosedBy m) sx sy dx dy (p .driven k) (q .driven (sym e ∙ k))
       go (no k) =
-          let u = p .refused k in
-          let v = q .refused (λ j. k (e ∙ j)) in
-          (u .0 ∙ sym (v .0), u .1 ∙ sym (v .1))
+          let k′ : ¬ (s ≡ 0) = λ d. k (e ∙ d) in
+          (p .empty k ∙ sym (q .empty k′), p .still k ∙ sym (q .still k′))
 
-  pub write-one : {out a b : List ℕ} {r s : WroteMap} → WriteCall list count w h out a r → WriteCall list count w h out b s → (r ≡ s) × (a ≡ b)
+  pub write-one : {out a b : List ℕ} {r s : WroteMap} → WriteCall m out a r → WriteCall m out b s → (r ≡ s) × (a ≡ b)
   write-one {out} {a} {b} {r} {s} p q = go (ℕ-discrete (r .refusal) 0)
     where
       e : r .refusal ≡ s .refusal
-      e = gives-one (Rules.write-table list count w h out) _ _ (p .given) (q .given)
+      e = gives-one (Rules.write-table m out) _ _ (p .given) (q .given)
 
       go : Dec (r .refusal ≡ 0) → (r ≡ s) × (a ≡ b)
       go (yes z) =
           let u = p .done z in
           let v = q .done (sym e ∙ z) in
-          let f : u .0 ≡ v .0 = written-one w h (RocksOf list count) (rocks-told (inUse list count) w h) (u .0) (v .0) (u .1) (v .1) in (
-            wrote-same e (u .2 ∙ ap length f ∙ sym (v .2)),
-            u .3 ∙ ap (λ (l : List ℕ). l ++ drop (length l) out) f ∙ sym (v .3),
+          let f : u .file ≡ v .file =
+          written-one (m .width) (m .height) (RocksOf m) (rocks-told (markersIn m) (m .width) (m .height)) (u .file) (v .file) (u .written) (v .written) in (
+            wrote-same e (u .counted ∙ ap length f ∙ sym (v .counted)),
+            u .is ∙ ap (λ (l : List ℕ). l ++ drop (length l) out) f ∙ sym (v .is),
           )
       go (no z) =
-          let u = p .refused z in
-          let v = q .refused (λ k. z (e ∙ k)) in
-          (wrote-same e (u .0 ∙ sym (v .0)), u .1 ∙ sym (v .1))
+          let z′ : ¬ (s .refusal ≡ 0) = λ k. z (e ∙ k) in
+          (refused-one no-bytes e (p .refused z) (q .refused z′), p .kept z ∙ sym (q .kept z′))
 
 -- A file is a map or has a fault, and never both; a map's rocks find slots or do not.
 pub read-one : {file : List ℕ} {list a b : List Marker} {r s : ReadMap} → ReadCall file list a r → ReadCall file list b s → (r ≡ s) × (a ≡ b)
 read-one {file} {list} {a} {b} {r} {s} p q = go (ℕ-discrete (r .refusal) 0) (ℕ-discrete (s .refusal) 0)
   where
-    faults : (n m : ℕ) → FileFault file n ⊎ (NoSlot file (length list) × (n ≡ no-slot)) → FileFault file m ⊎ (NoSlot file (length list) × (m ≡ no-slot)) → n ≡ m
+    faults : (n m : ℕ) → ReadFault file (length list) n → ReadFault file (length list) m → n ≡ m
     faults n m (inl f) (inl g) = fault-one f g
     faults n m (inl f) (inr g) = absurd (fault-no-map f (g .0 .map))
     faults n m (inr f) (inl g) = absurd (fault-no-map g (f .0 .map))
     faults n m (inr f) (inr g) = f .1 ∙ sym (g .1)
 
-    never : {n v k : ℕ} {bits : List ℕ} → MapFile file v k bits → ¬ NoSlot file (length list)
-        → FileFault file n ⊎ (NoSlot file (length list) × (n ≡ no-slot)) → ⊥
+    never : {n v k : ℕ} {bits : List ℕ} → MapFile file v k bits → ¬ NoSlot file (length list) → ReadFault file (length list) n → ⊥
     never m t (inl f) = fault-no-map f m
     never m t (inr f) = t (f .0)
 
@@ -272,13 +226,10 @@ read-one {file} {list} {a} {b} {r} {s} p q = go (ℕ-discrete (r .refusal) 0) (�
     go (yes z) (yes z′) =
         let u = p .done z in
         let v = q .done z′ in
-        let m = map-file-one (u .1) (v .1) in
-        let k : markersOf (r .width) (r .height) (u .0) ≡ markersOf (s .width) (s .height) (v .0) = cc in
-        let n : r .count ≡ s .count = u .2 ∙ ap length k ∙ sym (v .2) in
-        (read-same (z ∙ sym z′) (m .0) (m .1) n, cc)
-    go (yes z) (no z′) = let u = p .done z in absurd (never (u .1) (u .3) (q .refused z′ .0))
-    go (no z) (yes z′) = let v = q .done z′ in absurd (never (v .1) (v .3) (p .refused z .0))
-    go (no z) (no z′) =
-        let u = p .refused z in
-        let v = q .refused z′ in
-        (read-same (faults _ _ (u .0) (v .0)) (u .2 ∙ sym (v .2)) (u .3 ∙ sym (v .3)) (u .4 ∙ sym (v .4)), u .1 ∙ sym (v .1))
+        let m = map-file-one (u .map) (v .map) in
+        let k : markersOf (r .width) (r .height) (u .bits) ≡ markersOf (s .width) (s .height) (v .bits) = cc in
+        let n : r .count ≡ s .count = u .counted ∙ ap length k ∙ sym (v .counted) in
+        (read-same (z ∙ sym z′) (m .0) (m .1) n, u .slots ∙ ap₂ (λ (l : List Marker) (i : ℕ). l ++ drop i list) k n ∙ sym (v .slots))
+    go (yes z) (no z′) = let u = p .done z in absurd (never (u .map) (u .room) (q .given z′))
+    go (no z) (yes z′) = let v = q .done z′ in absurd (never (v .map) (v .room) (p .given z))
+    go (no z) (no z′) = (refused-one no-map (faults _ _ (p .given z) (q .given z′)) (p .refused z) (q .refused z′), p .kept z ∙ sym (q .kept z′))

@@ -1,30 +1,34 @@
--- What makes an outcome one. Answers are equal by their fields; what an asking leaves in a lent sheet is one, since the number that it gave says
--- whether the sheet is kept, emptied or filled, and the list says with what.
-use mathlib.Core.Path.{_≡_, sym, _∙_}
+-- What makes an outcome one. Answers are equal by their fields; what an asking leaves in a lent
+-- sheet is one, since the number that it gave says whether the sheet is kept, emptied or filled,
+-- and the list says with what.
+use mathlib.Core.Path.{_≡_, sym, ap, _∙_}
 use mathlib.Core.Bool.{Bool, true, false}
-use mathlib.Core.List.{List}
+use mathlib.Core.List.{List, _++_}
 use mathlib.Core.Logic.{_↔_}
 use Prim.Native.Nat.{ℕ, _≤_}
 use native.Mathlib.Omega.{arith}
 use native.Mathlib.Decide.{decLe, ℕ-discrete}
+use lib.ListN.{take, drop, take-append-drop}
 use lib.Seq.{ext-getD}
 use Rattle.field.specs.declared.Marker.{Marker}
 use Rattle.field.specs.Refusals.{no-slot, end-closed, no-drive}
 use Rattle.field.specs.Labels.{Rock}
+use Rattle.field.specs.Distances.{Way}
 use Rattle.field.specs.Workings.Tests.{test-dec}
 use Rattle.field.specs.Workings.Stamping.{rockOf, rock-of, of-rock}
 use Rattle.field.specs.Workings.Labelling.{label-sheet-one}
+use Rattle.field.specs.Workings.DistanceLaws.{distance-sheet-one}
 use Rattle.field.specs.Workings.RegionLaws.{region-sheet-one}
+use Rattle.field.specs.Workings.ChooserLaws.{driven-one}
 use Rattle.mapfile.specs.PackedLaws.{Told}
-use Rattle.calls.specs.Rules.{RocksOf, ClosedBy}
-use Rattle.calls.specs.Calls.{Early, LabelsAfter, RegionAfter}
+use Rattle.calls.specs.Answers.{Early, LabelsAfter, DistancesAfter, RegionAfter, RouteAfter}
 use Rattle.calls.specs.declared.Counted.{Counted}
-use Rattle.askings.specs.declared.Labelling.{Labelling}
-use Rattle.askings.specs.declared.Four.{Four}
-use Rattle.answers.specs.declared.Assurance.{Assurance}
-use Rattle.answers.specs.declared.Drove.{Drove}
-use Rattle.exchange.specs.declared.ReadMap.{ReadMap}
-use Rattle.exchange.specs.declared.WroteMap.{WroteMap}
+use Rattle.calls.specs.declared.Labelling.{Labelling}
+use Rattle.calls.specs.declared.Four.{Four}
+use Rattle.calls.specs.declared.Assurance.{Assurance}
+use Rattle.calls.specs.declared.Drove.{Drove}
+use Rattle.calls.specs.declared.ReadMap.{ReadMap}
+use Rattle.calls.specs.declared.WroteMap.{WroteMap}
 
 -- n lies from 1 to m.
 upto-dec : (n m : ℕ) → Dec ((1 ≤ n) × (n ≤ m))
@@ -38,26 +42,58 @@ upto-dec n m = go (decLe 1 n) (decLe n m)
 pub early-dec : (n : ℕ) → Dec (Early n)
 early-dec n = upto-dec n no-slot
 
-pub labels-after-one : {list : List Marker} {count w h n m : ℕ} {labels a b : List ℕ} → n ≡ m → LabelsAfter list count w h n labels a
-    → LabelsAfter list count w h m labels b → a ≡ b
-labels-after-one {list} {count} {w} {h} {n} {m} {labels} {a} {b} e p q = go (early-dec n)
+pub labels-after-one : {R : ℕ → ℕ → Type 0} {w h n m : ℕ} {labels a b : List ℕ} → n ≡ m → LabelsAfter R w h n labels a
+    → LabelsAfter R w h m labels b → a ≡ b
+labels-after-one {R} {w} {h} {n} {m} {labels} {a} {b} e p q = go (early-dec n)
   where
     go : Dec (Early n) → a ≡ b
     go (yes t) = p .kept t ∙ sym (q .kept (omega arith))
-    go (no t) = label-sheet-one (RocksOf list count) w h a b (p .labelled t) (q .labelled (λ k. t (omega arith)))
+    go (no t) = label-sheet-one R w h a b (p .labelled t) (q .labelled (λ k. t (omega arith)))
 
-pub region-after-one : {list : List Marker} {count w h sx sy dx dy n m : ℕ} {region a b : List ℕ} → n ≡ m
-    → RegionAfter list count w h sx sy dx dy n region a → RegionAfter list count w h sx sy dx dy m region b → a ≡ b
-region-after-one {list} {count} {w} {h} {sx} {sy} {dx} {dy} {n} {m} {region} {a} {b} e p q = go (upto-dec n end-closed) (ℕ-discrete n no-drive)
+pub distances-after-one : {w h : ℕ} {C : ℕ → ℕ → Type 0} {way : Way} {n m : ℕ} {sheet a b : List ℕ} → n ≡ m → DistancesAfter w h C way n sheet a
+    → DistancesAfter w h C way m sheet b → a ≡ b
+distances-after-one {n = n} {m = m} {a = a} {b = b} e p q = go (ℕ-discrete n 0)
+  where
+    go : Dec (n ≡ 0) → a ≡ b
+    go (yes z) = distance-sheet-one (p .filled z) (q .filled (sym e ∙ z))
+    go (no z) = p .kept z ∙ sym (q .kept (λ k. z (e ∙ k)))
+
+pub region-after-one : {w h : ℕ} {C : ℕ → ℕ → Type 0} {sx sy dx dy n m : ℕ} {region a b : List ℕ} → n ≡ m
+    → RegionAfter w h C sx sy dx dy n region a → RegionAfter w h C sx sy dx dy m region b → a ≡ b
+region-after-one {w} {h} {C} {sx} {sy} {dx} {dy} {n} {m} {region} {a} {b} e p q = go (upto-dec n end-closed) (ℕ-discrete n no-drive)
   where
     go : Dec ((1 ≤ n) × (n ≤ end-closed)) → Dec (n ≡ no-drive) → a ≡ b
     go (yes t) d = p .kept t ∙ sym (q .kept (omega arith))
     go (no t) (yes d) =
-        let u = p .none d in
-        let v = q .none (omega arith) in
-        ext-getD 0 a b (u .0 ∙ sym (v .0)) (λ i l. u .1 i ∙ sym (v .1 i))
-    go (no t) (no d) =
-        region-sheet-one w h (ClosedBy list count w h) sx sy dx dy (p .made (λ k. t (omega arith))) (q .made (λ k. t (omega arith)))
+        let f : m ≡ no-drive = omega arith in
+        ext-getD 0 a b (p .size d ∙ sym (q .size f)) (λ i l. p .zeros d i ∙ sym (q .zeros f i))
+    go (no t) (no d) = region-sheet-one w h C sx sy dx dy (p .made (λ k. t (omega arith))) (q .made (λ k. t (omega arith)))
+
+-- What is left of a route: so many crossings, one state after them, and one route, which is its
+-- filled part and the rest.
+pub route-after-one : {w h : ℕ} {C : ℕ → ℕ → Type 0} {sx sy dx dy n m i j state z z′ : ℕ} {route a b : List ℕ} → n ≡ m
+    → RouteAfter w h C sx sy dx dy n i route state a z → RouteAfter w h C sx sy dx dy m j route state b z′
+    → (i ≡ j) × (a ≡ b) × (z ≡ z′)
+route-after-one {w} {h} {C} {sx} {sy} {dx} {dy} {n} {m} {i} {j} {state} {z} {z′} {route} {a} {b} e p q = go (ℕ-discrete n 0)
+  where
+    whole : i ≡ j → take i a ≡ take j b → drop i a ≡ drop i route → drop j b ≡ drop j route → a ≡ b
+    whole f front back back′ =
+        sym (take-append-drop i a) ∙ ap (λ (l : List ℕ). l ++ drop i a) front
+        ∙ ap (λ (l : List ℕ). take j b ++ l) (back ∙ ap (λ (k : ℕ). drop k route) f ∙ sym back′) ∙ take-append-drop j b
+
+    go : Dec (n ≡ 0) → (i ≡ j) × (a ≡ b) × (z ≡ z′)
+    go (yes k) =
+        let k′ : m ≡ 0 = sym e ∙ k in
+        let f : i ≡ j = p .long k ∙ sym (q .long k′) in
+        let o = driven-one w h C sx sy dx dy (p .driven k) (q .driven k′) in
+        (f, whole f (o .0) (p .rest k) (q .rest k′), o .1)
+    go (no k) =
+        let k′ : ¬ (m ≡ 0) = λ d. k (e ∙ d) in
+        (p .none k ∙ sym (q .none k′), p .kept k ∙ sym (q .kept k′), p .still k ∙ sym (q .still k′))
+
+-- Two refusals with one number.
+pub refused-one : {A : Type 0} (refusal : ℕ → A) {n m : ℕ} {r s : A} → n ≡ m → r ≡ refusal n → s ≡ refusal m → r ≡ s
+refused-one refusal e p q = p ∙ ap refusal e ∙ sym q
 
 -- Answers by their fields.
 pub counted-same : {r s : Counted} → r .refusal ≡ s .refusal → r .count ≡ s .count → r ≡ s

@@ -1,7 +1,8 @@
--- Laws of refusals. A call's table has its rows in the order of their numbers, from 1 on: so 0 is given exactly where no row applies, and a number
--- exactly where its row applies and no row before it does.
-use mathlib.Core.Path.{_≡_}
-use mathlib.Core.List.{List, [], _∷_}
+-- Laws of refusals. A call's table has its rows in the order of their numbers, from 1 on: so 0 is
+-- given exactly where no row applies, and a number exactly where its row applies and no row before
+-- it does.
+use mathlib.Core.Path.{_≡_, _∙_}
+use mathlib.Core.List.{List, [], _∷_, _++_}
 use mathlib.Core.Logic.{_↔_, _⊎_, inl, inr}
 use Prim.Native.Nat.{ℕ, _*_, _<_, _≤_}
 use native.Mathlib.Omega.{arith}
@@ -23,7 +24,7 @@ Rises m [] = Unit {0}
 Rises m (r ∷ rs) = (m < r .number) × Rises (r .number) rs
 
 -- What is given is 0 or above m.
-gives-above : (rules : List Rule) (m n : ℕ) → Rises m rules → Gives rules n → (n ≡ 0) ⊎ (m < n)
+pub gives-above : (rules : List Rule) (m n : ℕ) → Rises m rules → Gives rules n → (n ≡ 0) ⊎ (m < n)
 gives-above [] m n u g = inl g
 gives-above (r ∷ rs) m n u (inl p) = inr (omega (arith, u .0, p .1))
 gives-above (r ∷ rs) m n u (inr p) = go (gives-above rs (r .number) n (u .1) (p .1))
@@ -42,8 +43,9 @@ gives-none [] m n u g e = tt
 gives-none (r ∷ rs) m n u (inl p) e = absurd (omega (arith, u .0, p .1))
 gives-none (r ∷ rs) m n u (inr p) e = (p .0, gives-none rs (r .number) n (u .1) (p .1) e)
 
--- n is given exactly as the table says. Each row's number is given exactly where the row applies and no earlier one does; 0 exactly where no row
--- applies. Earlier says that no earlier row applies.
+-- n is given exactly as the table says. Each row's number is given exactly where the row applies
+-- and no earlier one does; 0 exactly where no row applies. Earlier says that no earlier row
+-- applies.
 abbrev pub ExactlyAfter : Type 0 → List Rule → ℕ → Type 0
 ExactlyAfter Earlier [] n = (n ≡ 0) ↔ Earlier
 ExactlyAfter Earlier (r ∷ rs) n = ((n ≡ r .number) ↔ ((r .applies) × Earlier)) × ExactlyAfter (Earlier × (¬ (r .applies))) rs n
@@ -69,6 +71,37 @@ exactly-after E (r ∷ rs) m n u (inr p) =
 
 pub exactly : (rules : List Rule) (n : ℕ) → Rises 0 rules → Gives rules n → Exactly rules n
 exactly rules n u g = exactly-after (Unit {0}) rules 0 n u (inl (tt, g))
+
+-- A table's rows may be told in other words: where each row applies exactly when the other's does,
+-- as long as no earlier row applies, and rows left over never apply, both give one number.
+abbrev pub Reworded : List Rule → List Rule → Type 0
+Reworded [] [] = Unit {0}
+Reworded [] (s ∷ ss) = ⊥
+Reworded (r ∷ rs) [] = (¬ (r .applies)) × Reworded rs []
+Reworded (r ∷ rs) (s ∷ ss) = (r .number ≡ s .number) × ((r .applies) ↔ (s .applies)) × (¬ (r .applies) → Reworded rs ss)
+
+pub gives-reworded : (rs ss : List Rule) (n : ℕ) → Reworded rs ss → Gives rs n → Gives ss n
+gives-reworded [] [] n a g = g
+gives-reworded [] (s ∷ ss) n a g = absurd a
+gives-reworded (r ∷ rs) [] n a (inl p) = absurd (a .0 (p .0))
+gives-reworded (r ∷ rs) [] n a (inr p) = gives-reworded rs [] n (a .1) (p .1)
+gives-reworded (r ∷ rs) (s ∷ ss) n a (inl p) = inl (a .1 .0 (p .0), p .1 ∙ a .0)
+gives-reworded (r ∷ rs) (s ∷ ss) n a (inr p) = inr (λ q. p .0 (a .1 .1 q), gives-reworded rs ss n (a .2 (p .0)) (p .1))
+
+-- A row told in the same words.
+pub same : {P : Type 0} → P ↔ P
+same = (λ p. p, λ p. p)
+
+-- Rows that come after others: what is given is the first rows' number, or where they give none,
+-- the later ones'.
+pub gives-early : (rs later : List Rule) (n : ℕ) → Gives rs n → ¬ (n ≡ 0) → Gives (rs ++ later) n
+gives-early [] later n g f = absurd (f g)
+gives-early (r ∷ rs) later n (inl p) f = inl p
+gives-early (r ∷ rs) later n (inr p) f = inr (p .0, gives-early rs later n (p .1) f)
+
+pub gives-later : (rs later : List Rule) (n : ℕ) → None rs → Gives later n → Gives (rs ++ later) n
+gives-later [] later n f g = g
+gives-later (r ∷ rs) later n f g = inr (f .0, gives-later rs later n (f .1) g)
 
 -- What can be told holds where it does not fail.
 pub holds : {P : Type 0} → Dec P → ¬ ¬ P → P

@@ -1,5 +1,6 @@
--- Two markers on one crossing, told by counting marks. Stamped one after the other, a marker on a crossing that bears no mark yet makes one mark more,
--- and a marker on a marked crossing makes none. So a stamped sheet has as many marks as there are markers exactly where no two share a crossing.
+-- Two markers on one crossing, told by counting marks. Stamped one after the other, a marker on a
+-- crossing that bears no mark yet makes one mark more, and a marker on a marked crossing makes
+-- none. So there are as many marks as markers exactly where no two share a crossing.
 use mathlib.Core.Path.{_≡_, refl, sym, ap, subst, _∙_}
 use mathlib.Core.List.{List, [], _∷_}
 use mathlib.Core.Logic.{_↔_, _⊎_, inl, inr}
@@ -18,7 +19,6 @@ use Rattle.field.specs.Workings.Sheet.{number-lt, Crossing, crossing}
 use Rattle.markers.specs.List.{slot, WellFormed}
 use Rattle.markers.specs.Laws.Rocks.{Stands, rock-stands, stands-rock}
 use Rattle.markers.specs.Laws.Stamping.{Stamping, stamping-start, stamping-more}
-use Rattle.records.specs.Promise.{StampedWith}
 use Rattle.calls.specs.Rules.{Shared}
 
 -- A mark set where there is none is one mark more, and where there is one it is the same.
@@ -49,22 +49,22 @@ zeros-marks zero = refl
 zeros-marks (suc n) = omega (arith, zeros-marks n)
 
 module _ (w h : ℕ) (list : List Marker) where
-  x-of : ℕ → ℕ
+  pub x-of : ℕ → ℕ
   x-of k = slot list k .x
 
-  y-of : ℕ → ℕ
+  pub y-of : ℕ → ℕ
   y-of k = slot list k .y
 
   -- The first k markers stand on the map.
-  abbrev OnMap : ℕ → Type 0
+  abbrev pub OnMap : ℕ → Type 0
   OnMap k = (j : ℕ) → j < k → On w h (slot list j .x) (slot list j .y)
 
   -- The sheet on which they are stamped.
-  drawn : ℕ → List ℕ
+  pub drawn : ℕ → List ℕ
   drawn zero = zeros (h * w)
   drawn (suc k) = set (drawn k) (number w (slot list k .x) (slot list k .y)) 1
 
-  drawn-is : (k : ℕ) → OnMap k → Stamping w h x-of y-of k (drawn k)
+  pub drawn-is : (k : ℕ) → OnMap k → Stamping w h x-of y-of k (drawn k)
   unfolding drawn zeros x-of y-of
   drawn-is zero on =
       stamping-start w h x-of y-of (drawn 0) (drawn 0) (length-replicate {A = ℕ} (h * w) 0) (record { size = refl; zeros = zeros-at (h * w) })
@@ -73,23 +73,25 @@ module _ (w h : ℕ) (list : List Marker) where
       (stamping-more {w = w} {h = h} {k = k} {x = x-of} {y = y-of} (on k (omega arith)) (drawn-is k (λ j l. on j (omega arith))))
 
   -- Its marks are the crossings on which they stand.
-  drawn-stands : (k x y : ℕ) → OnMap k → Stands list k x y → 0 < at (drawn k) w x y
+  pub drawn-stands : (k x y : ℕ) → OnMap k → Stands list k x y → 0 < at (drawn k) w x y
   unfolding x-of y-of
   drawn-stands k x y on t = rw (← t .x-is, ← t .y-is) (drawn-is k on .complete (t .place) (t .below))
 
-  stands-drawn : (k x y : ℕ) → OnMap k → On w h x y → 0 < at (drawn k) w x y → Stands list k x y
+  pub stands-drawn : (k x y : ℕ) → OnMap k → On w h x y → 0 < at (drawn k) w x y → Stands list k x y
   unfolding x-of y-of
   stands-drawn k x y on o m =
       let p = drawn-is k on .sound x y o m in record { place = p .place; below = p .below; x-is = p .x-is; y-is = p .y-is }
 
-  -- No two of the first k markers stand on one crossing, and there are k marks; or two do, and there are fewer.
-  abbrev Distinct : ℕ → Type 0
+  -- No two of the first k markers stand on one crossing, and there are k marks; or two do, and
+  -- there are fewer.
+  abbrev pub Distinct : ℕ → Type 0
   Distinct k = (i j : ℕ) → i < j → j < k → slot list i .x ≡ slot list j .x → slot list i .y ≡ slot list j .y → ⊥
 
-  abbrev Told : ℕ → ℕ → Type 0
+  abbrev pub Told : ℕ → ℕ → Type 0
   Told k n = ((n ≡ k) × Distinct k) ⊎ ((n < k) × Shared list k)
 
-  -- The next marker's crossing is marked already: it shares it with the marker that is stamped there.
+  -- The next marker's crossing is marked already: it shares it with the marker that is stamped
+  -- there.
   told-again : (k : ℕ) → OnMap (suc k) → 0 < at (drawn k) w (slot list k .x) (slot list k .y) → marks (drawn k) ≤ k → Told (suc k) (marks (drawn (suc k)))
   unfolding drawn x-of y-of
   told-again k on m n =
@@ -147,7 +149,7 @@ module _ (w h : ℕ) (list : List Marker) where
   told-most (inl t) = omega (arith, t .0)
   told-most (inr t) = omega (arith, t .0)
 
-  told : (k : ℕ) → OnMap k → Told k (marks (drawn k))
+  pub told : (k : ℕ) → OnMap k → Told k (marks (drawn k))
   unfolding drawn
   told zero on = inl (zeros-marks (h * w), λ i j l b p q. omega arith)
   told (suc k) on = go (told k (λ j l. on j (omega arith))) (decLt 0 (at (drawn k) w (slot list k .x) (slot list k .y)))
@@ -156,57 +158,15 @@ module _ (w h : ℕ) (list : List Marker) where
       go t (yes m) = told-again k on m (told-most t)
       go t (no m) = told-new k on (omega arith) t
 
-  module _ (count : ℕ) (sheet : List ℕ) (formed : WellFormed w h list count) (stamped : StampedWith w h list count sheet) where
-    -- The stamped sheet has the marks of the markers in use.
-    sheet-marks : marks sheet ≡ marks (drawn count)
-    sheet-marks = omega (arith, marks-mono sheet (drawn count) long there, marks-mono (drawn count) sheet (sym long) back)
-      where
-        s : Stamping w h x-of y-of count (drawn count)
-        s = drawn-is count (formed .on)
+  pub distinct : {count : ℕ} → Distinct count → Shared list count → ⊥
+  distinct d t = go (decLt (t .j) (t .k))
+    where
+      go : Dec (t .j < t .k) → ⊥
+      go (yes l) = d (t .j) (t .k) l (t .k-below) (t .x) (t .y)
+      go (no l) = d (t .k) (t .j) (omega (arith, t .two)) (t .j-below) (sym (t .x)) (sym (t .y))
 
-        long : length sheet ≡ length (drawn count)
-        long = stamped .size ∙ sym (s .size)
-
-        there-at : (i : ℕ) → Crossing w h i → 0 < getD sheet i 0 → 0 < getD (drawn count) i 0
-        there-at i c m =
-            let r = stamped .rocks .sound (c .x) (c .y) (record { on = c .on; mark = rw (c .is) m }) in
-            rw (c .is) at (drawn-stands count (c .x) (c .y) (formed .on) (rock-stands list count (c .x) (c .y) (r .stone)))
-
-        there : Among sheet (drawn count)
-        there i l m = there-at i (crossing w h i (omega (arith, stamped .size))) m
-
-        back-at : (i : ℕ) → Crossing w h i → 0 < getD (drawn count) i 0 → 0 < getD sheet i 0
-        back-at i c m =
-            let r = stands-rock list count (c .x) (c .y) (formed .lent) (stands-drawn count (c .x) (c .y) (formed .on) (c .on) (rw (c .is) m)) in
-            rw (c .is) at (stamped .rocks .complete (c .x) (c .y) (record { on = c .on; stone = r }) .mark)
-
-        back : Among (drawn count) sheet
-        back i l m = back-at i (crossing w h i (omega (arith, s .size))) m
-
-    distinct : Distinct count → Shared list count → ⊥
-    distinct d t = go (decLt (t .j) (t .k))
-      where
-        go : Dec (t .j < t .k) → ⊥
-        go (yes l) = d (t .j) (t .k) l (t .k-below) (t .x) (t .y)
-        go (no l) = d (t .k) (t .j) (omega (arith, t .two)) (t .j-below) (sym (t .x)) (sym (t .y))
-
-    -- As many marks as markers: no two share a crossing. Another number: two do.
-    pub marks-apart : marks sheet ≡ count → ¬ Shared list count
-    marks-apart e = go (told count (formed .on))
-      where
-        go : Told count (marks (drawn count)) → ¬ Shared list count
-        go (inl t) = distinct (t .1)
-        go (inr t) = absurd (omega (arith, t .0, sheet-marks))
-
-    pub marks-shared : ¬ (marks sheet ≡ count) → Shared list count
-    marks-shared e = go (told count (formed .on))
-      where
-        go : Told count (marks (drawn count)) → Shared list count
-        go (inl t) = absurd (e (sheet-marks ∙ t .0))
-        go (inr t) = t .1
-
--- Lists whose markers stand on the same crossings of the map, each list with no two markers on one of them, have as many markers: each has as many as
--- there are marks, and the marks are the same.
+-- Lists whose markers stand on the same crossings of the map, each list with no two markers on one
+-- of them, have as many markers: each has as many as there are marks, and the marks are the same.
 module _ {w h : ℕ} where
   drawn-among : (list other : List Marker) (count more : ℕ) → OnMap w h list count → OnMap w h other more
       → ((x y : ℕ) → Stands list count x y → Stands other more x y) → Among (drawn w h list count) (drawn w h other more)

@@ -1,9 +1,68 @@
-// The promises of the public calls stand in this crate's specs, with all that is proved of them. What is declared here is an answer that no crate below
-// has.
+// The answers of the public calls, by value. Their promises stand in this crate's specs, with all
+// that is proved of them; the crates that compute the answers rest on it. A refusal is its number,
+// with zeros beside it.
 
 // The new count of a list, or the refusal.
 #[repr(C)]
 pub struct Counted {
     pub refusal: u8,
     pub count: usize,
+}
+
+// The numbers of rocks' crossings, shut crossings and groups, or the refusal.
+#[repr(C)]
+pub struct Labelling {
+    pub refusal: u8,
+    pub rocks: usize,
+    pub shut: usize,
+    pub groups: usize,
+}
+
+// The four distances of a crossing, east, south, west, north, or the refusal.
+#[repr(C)]
+pub struct Four {
+    pub refusal: u8,
+    pub four: [u8; 4],
+}
+
+// Whether home is assured, or the refusal.
+#[repr(C)]
+pub struct Assurance {
+    pub refusal: u8,
+    pub assured: bool,
+}
+
+// How many hops homeward are permitted, none at home, and where they lead, the east-west one first;
+// or the refusal.
+#[repr(C)]
+pub struct Homeward {
+    pub refusal: u8,
+    pub hops: u8,
+    pub x: usize,
+    pub y: usize,
+    pub a: usize,
+    pub b: usize,
+}
+
+// How many crossings of the route were filled, or the refusal.
+#[repr(C)]
+pub struct Drove {
+    pub refusal: u8,
+    pub length: usize,
+}
+
+// Width, height and number of markers of a map that was read, or the refusal.
+#[repr(C)]
+pub struct ReadMap {
+    pub refusal: u8,
+    pub width: usize,
+    pub height: usize,
+    pub count: usize,
+}
+
+// How many bytes were written, or the refusal.
+#[repr(C)]
+pub struct WroteMap {
+    pub refusal: u8,
+    pub bytes: usize,
 }

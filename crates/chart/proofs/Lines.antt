@@ -1,4 +1,4 @@
--- Numbers put one after the other make a line, and each takes five bytes at most.
+-- Numbers put one after the other make a line, and each takes its room at most.
 use mathlib.Core.Path.{refl, ap, _∙_}
 use mathlib.Core.List.{List, [], _∷_, _++_, append-assoc}
 use Prim.Native.Nat.{ℕ, _+_, _≤_}
@@ -6,11 +6,11 @@ use native.Mathlib.Omega.{arith}
 use lib.ListN.{length, length-append}
 use Rattle.labels.specs.declared.Labelled.{Labelled}
 use Rattle.packing.proofs.Filling.{Filled, filled-as}
-use Rattle.chart.specs.Promise.{Line, last-number, next-number}
+use Rattle.chart.specs.Promise.{number-room, Line, last-number, next-number}
 use Rattle.chart.specs.Parts.{Puts, NumberThen, FirstLine}
 use Rattle.chart.proofs.Putting.{put-front, front-put, filled-more}
 
-pub number-ends : {v mark at end : ℕ} {out after : List ℕ} → Puts (NumberThen v mark) out at after end → end ≤ at + 5
+pub number-ends : {v mark at end : ℕ} {out after : List ℕ} → Puts (NumberThen v mark) out at after end → end ≤ at + number-room
 number-ends {v} {mark} p =
     let n = p .right in
     omega (arith, p .put .size, ap length (n .is) ∙ length-append (n .digits) (mark ∷ []), n .few)

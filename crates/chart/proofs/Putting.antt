@@ -1,8 +1,8 @@
--- Pieces put into the output one after the other: what stands at the front grows by each. The output is filled from the front, as the map writer
--- fills its own.
+-- Pieces put into the output one after the other: what stands at the front grows by each. The
+-- output is filled from the front, as the map writer fills its own.
 use mathlib.Core.Path.{_≡_, sym, ap, _∙_}
-use mathlib.Core.List.{List, [], _∷_, _++_, append-assoc}
-use Prim.Native.Nat.{ℕ, _+_, _-_, _<_, _≤_}
+use mathlib.Core.List.{List, _++_, append-assoc}
+use Prim.Native.Nat.{ℕ, _+_, _-_, _≤_}
 use native.Mathlib.Omega.{arith}
 use lib.ListN.{length, take, drop, length-append, take-append-drop}
 use lib.Seq.{length-take-le, take-at, drop-at, drop-append-add, drop-drop}

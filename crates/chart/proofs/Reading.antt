@@ -1,22 +1,22 @@
--- What reading a map file leaves in the bits is what turning asks for, and the text of those bits is the text of the file. With a slot for each
--- crossing of the largest map, no file's rocks want for one.
+-- What reading a map file leaves in the bits is what turning asks for, and the text of those bits
+-- is the text of the file.
 use mathlib.Core.Path.{_≡_}
 use mathlib.Core.List.{List}
 use mathlib.Core.Logic.{_⊎_, inl, inr}
-use Prim.Native.Nat.{ℕ, _+_, _*_, _<_, _≤_}
+use Prim.Native.Nat.{ℕ, _+_, _*_, _≤_}
 use native.Mathlib.Omega.{arith}
 use native.Mathlib.Nat.{mul-le-mul-left, mul-le-mul-right}
 use lib.ListN.{length, take, length-take}
 use lib.Seq.{getD-take}
-use Rattle.field.specs.Map.{side, most-markers, Sides}
+use Rattle.field.specs.Map.{side, Sides}
 use Rattle.field.specs.Refusals.{no-slot}
-use Rattle.field.specs.Limits.{crossing-slots, marker-slots, crossings-few, most-markers-is}
-use Rattle.mapfile.specs.File.{MapFile, FileFault, NoSlot, markersOf}
-use Rattle.mapfile.specs.RockLaws.{raster-bits, raster-crossings, markers-few}
+use Rattle.field.specs.Limits.{marker-slots, most-markers-is}
+use Rattle.mapfile.specs.File.{MapFile, FileFault, NoSlot}
+use Rattle.mapfile.specs.RockLaws.{raster-bits, raster-crossings}
 use Rattle.reader.specs.declared.Reading.{Reading}
 use Rattle.reader.specs.declared.Reading.the-variants.{Map, Refused}
 use Rattle.reader.specs.Promise.{Reads, Taken}
-use Rattle.chart.specs.Promise.{most-bytes, Charted, at-fault, shown}
+use Rattle.chart.specs.Promise.{line-room, most-bytes, Refusal, fault, too-many, Charted, not-taken, shown}
 use Rattle.chart.specs.Parts.{Puts, BitsShown, RefusalLine}
 use Rattle.turning.specs.Turning.{MayTurn}
 
@@ -24,33 +24,23 @@ use Rattle.turning.specs.Turning.{MayTurn}
 map-crossings : {file bits : List ℕ} {w h : ℕ} → MapFile file w h bits → length bits ≡ h * w
 map-crossings {file} {bits} {w} {h} m = raster-crossings (m .format) w h (m .body) bits (m .raster)
 
--- A slot for each crossing of the largest map.
-few-markers : {file bits : List ℕ} {w h : ℕ} → MapFile file w h bits → length (markersOf w h bits) ≤ crossing-slots
-few-markers {file} {bits} m = omega (arith, markers-few bits (m .sides) (map-crossings m), crossings-few (m .sides))
-
-slot-some : {file : List ℕ} {lent : ℕ} → marker-slots ≤ lent → ¬ NoSlot file lent
-slot-some {file} {lent} l n = go (n .many)
-  where
-    go : (lent < length (markersOf (n .w) (n .h) (n .bits))) ⊎ (most-markers < length (markersOf (n .w) (n .h) (n .bits))) → ⊥
-    go (inl m) = omega (arith, few-markers (n .map))
-    go (inr m) = omega (arith, few-markers (n .map), most-markers-is)
-
--- Each answer of the reader with its own promise: a refusal is the file's fault, as there are slots for every map.
+-- Each answer of the reader with its own promise: with as many slots as markers may be in use, a
+-- refusal is the file's.
 pub reads-map : {file out : List ℕ} {lent w h count : ℕ} {r : Reading} → Reads file lent out r → r ≡ Map w h count → Taken file lent w h count out
 reads-map p e = rw e at p
 
-pub reads-fault : {file : List ℕ} (out : List ℕ) {lent n : ℕ} {r : Reading} → marker-slots ≤ lent → Reads file lent out r → r ≡ Refused n → FileFault file n
-reads-fault {file} out {lent} {n} l p e = go (rw e at p)
+pub reads-refusal : {file : List ℕ} (out : List ℕ) {n : ℕ} {r : Reading} → Reads file marker-slots out r → r ≡ Refused n → Refusal file n
+reads-refusal {file} out {n} p e = go (rw e at p)
   where
-    go : FileFault file n ⊎ (NoSlot file lent × (n ≡ no-slot)) → FileFault file n
-    go (inl f) = f
-    go (inr s) = absurd (slot-some l (s .0))
+    go : FileFault file n ⊎ (NoSlot file marker-slots × (n ≡ no-slot)) → Refusal file n
+    go (inl f) = fault f
+    go (inr s) = too-many (rw most-markers-is (s .0)) (s .1)
 
--- A refusal's line is the text of a file with that fault.
-pub fault-text : {file out after : List ℕ} {n end : ℕ} → length file ≤ most-bytes → FileFault file n → Puts (RefusalLine n) out 0 after end
+-- A refusal's line is the text of the file that is refused.
+pub refusal-text : {file out after : List ℕ} {n end : ℕ} → length file ≤ most-bytes → Refusal file n → Puts (RefusalLine n) out 0 after end
     → Puts (Charted file) out 0 after end
-fault-text {n} l f p =
-    record { piece = p .piece; right = at-fault n (p .right .digits) l f (p .right .printed) (p .right .is); put = p .put }
+refusal-text {n} l f p =
+    record { piece = p .piece; right = not-taken n (p .right .digits) l f (p .right .printed) (p .right .is); put = p .put }
 
 module _ {file bits : List ℕ} {lent w h count : ℕ} (t : Taken file lent w h count bits) where
   -- The bits read can be stamped on a sheet of the map's size.
@@ -69,12 +59,12 @@ module _ {file bits : List ℕ} {lent w h count : ℕ} (t : Taken file lent w h 
       let s = q .right in
       record {
         piece = q .piece;
-        right = shown w h (s .rocks) (s .shut) (s .groups) (take (h * w) bits) (s .line) (s .picture) l (t .map) (s .rocks-are) (s .shut-are) (s .groups-are)
+        right = shown w h (s .rocks) (s .shut) (s .groups) (take (h * w) bits) (s .line) (s .picture) l (t .map) (omega (arith, t .counted, t .few)) (s .rocks-are) (s .shut-are) (s .groups-are)
             (s .line-is) (s .picture-is) (s .is);
         put = q .put;
       }
 
 -- The longest text is that of the largest map.
-pub text-few : {w h n : ℕ} → Sides w h → 25 + side * (side + 1) ≤ n → 25 + h * (w + 1) ≤ n
+pub text-few : {w h n : ℕ} → Sides w h → line-room + side * (side + 1) ≤ n → line-room + h * (w + 1) ≤ n
 text-few {w} {h} s l =
     omega (arith, mul-le-mul-right {m = h} {n = side} (w + 1) (s .most-h), mul-le-mul-left {m = w + 1} {n = side + 1} side (omega (arith, s .most-w)))

@@ -1,33 +1,21 @@
--- A sheet stamped and labelled gives the text of the map, and the text depends on which crossings are rocks and not on how that is said.
+-- A sheet stamped and labelled gives the text of the map, and the text depends on which crossings
+-- are rocks and not on how that is said.
 use mathlib.Core.Path.{_≡_, refl}
 use mathlib.Core.List.{List, _++_}
-use Prim.Native.Nat.{ℕ, _*_, _≤_}
-use native.Mathlib.Omega.{arith}
+use Prim.Native.Nat.{ℕ, _*_}
 use lib.ListN.{take}
-use Rattle.field.specs.Map.{side, Sides}
-use Rattle.field.specs.Labels.{RockOn, Label, is-open, is-rock, is-shut, Count}
+use Rattle.field.specs.Labels.{RockOn, Label, is-open, is-rock, is-shut}
 use Rattle.field.specs.Workings.Sheet.{Draws}
 use Rattle.field.specs.Workings.SameLaws.{Alike, open-same, closed-same, shut-same, count-alike, groups-same}
 use Rattle.labels.specs.declared.Labelled.{Labelled}
 use Rattle.labels.specs.Promise.{Stones, Labels}
-use Rattle.field.specs.Limits.{crossings-few}
 use Rattle.chart.specs.Promise.{Picture}
-use Rattle.chart.specs.Parts.{Put, Puts, Short, FirstLine, Shown, BitsShown}
+use Rattle.chart.specs.Parts.{Put, Puts, FirstLine, Shown, BitsShown}
 use Rattle.chart.specs.Drawing.{pictureOf}
 use Rattle.chart.specs.DrawingLaws.{picture-drawn}
-use Rattle.chart.specs.CountLaws.{count-few}
 use Rattle.turning.specs.Turning.{TurnedBy}
 use Rattle.turning.specs.TurningLaws.{turned-draws}
 use Rattle.chart.proofs.Putting.{put-front, front-put, filled-more}
-
--- A side is a short number, and so is a number of crossings.
-pub side-short : (v : ℕ) → v ≤ side → Short v
-unfolding Short side
-side-short v l = omega arith
-
-pub count-short : {w h n : ℕ} {P : ℕ → ℕ → Type 0} → Sides w h → Count w h P n → Short n
-unfolding Short
-count-short {w} {h} s c = omega (arith, count-few w h c, crossings-few s)
 
 -- Rocks that agree on the map.
 module _ (w h : ℕ) {R S : ℕ → ℕ → Type 0} (a : Alike (RockOn R w h) (RockOn S w h)) where

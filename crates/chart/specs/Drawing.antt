@@ -1,4 +1,5 @@
--- The picture as the code draws it, computed from the label sheet. That this is the promise's picture stands in DrawingLaws.
+-- The picture as the code draws it, computed from the label sheet. That this is the promise's
+-- picture stands in DrawingLaws.
 use mathlib.Core.List.{List, [], _∷_, _++_}
 use Prim.Native.Nat.{ℕ, zero, suc, _+_, _*_, _-_}
 use lib.ListN.{getD}

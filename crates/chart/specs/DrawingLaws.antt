@@ -1,4 +1,5 @@
--- What the code draws from a label sheet is the map's picture: sign x of row r stands at r * (w + 1) + x, and is the sign of its crossing's label.
+-- What the code draws from a label sheet is the map's picture: sign x of row r stands at r * (w +
+-- 1) + x, and is the sign of its crossing's label.
 use mathlib.Core.Path.{_≡_, refl, ap, _∙_}
 use mathlib.Core.List.{List, [], _∷_}
 use Prim.Native.Nat.{ℕ, _+_, _*_, _-_, _<_}

@@ -1,8 +1,11 @@
--- The labelling program's text, from the bytes of a map file: the promise and what it comes to; then what its functions put into the output on the
--- way, and why that is the promise.
+-- The labelling program's text, from the bytes of a map file: the promise and what it comes to;
+-- then what its functions put into the output on the way, and why that is the promise.
 pub mod Promise
+pub mod PrintLaws
 pub mod Outcome
 pub mod Parts
 pub mod Drawing
 pub mod DrawingLaws
-pub mod CountLaws
+pub mod Table
+pub mod TableLaws
+pub mod Settled

@@ -1,6 +1,8 @@
--- The program has one text for a file: a number is printed in one way, a line is made of its numbers, and a picture's signs are those of the labels.
+-- The program has one text for a file: a number is printed in one way, a line is made of its
+-- numbers, and a picture's signs are those of the labels.
 use mathlib.Core.Path.{_≡_, sym, ap, ap₂, _∙_}
 use mathlib.Core.List.{List, [], _++_}
+use mathlib.Core.Logic.{_⊎_, inl, inr}
 use Prim.Native.Nat.{ℕ, _+_, _*_, _-_, _<_, _≤_}
 use native.Mathlib.Omega.{arith}
 use native.Mathlib.Decide.{decLt}
@@ -9,13 +11,10 @@ use lib.Seq.{ext-getD, length-take-le}
 use Rattle.field.specs.Workings.Sheet.{Crossing, crossing}
 use Rattle.field.specs.Workings.Labelling.{label-one}
 use Rattle.field.specs.Workings.Counting.{count-one}
-use Rattle.mapfile.specs.File.{FileRock}
+use Rattle.field.specs.Map.{most-markers}
+use Rattle.mapfile.specs.File.{FileRock, MapFile, NoSlot, markersOf}
 use Rattle.mapfile.specs.FileLaws.{map-file-one, fault-one, fault-no-map}
-use Rattle.mapfile.specs.PlainLaws.{plain-one, plain-some}
 use Rattle.chart.specs.Promise.{
-  Printed,
-  nought,
-  digits,
   Line,
   last-number,
   next-number,
@@ -26,16 +25,14 @@ use Rattle.chart.specs.Promise.{
   Picture,
   Charted,
   too-long,
-  at-fault,
+  Refusal,
+  fault,
+  too-many,
+  not-taken,
   shown,
 }
 use Rattle.chart.specs.Parts.{Shown}
-
-printed-one : {v : ℕ} {l k : List ℕ} → Printed v l → Printed v k → l ≡ k
-printed-one (nought e p) (nought f q) = p ∙ sym q
-printed-one {v} {l} {k} (nought e p) (digits q) = absurd (omega (arith, plain-some v k q))
-printed-one {v} {l} {k} (digits p) (nought f q) = absurd (omega (arith, plain-some v l p))
-printed-one {v} {l} {k} (digits p) (digits q) = plain-one v l k p q
+use Rattle.chart.specs.PrintLaws.{printed-one}
 
 -- A line has a number.
 line-some : {vs l : List ℕ} → Line vs l → ¬ (vs ≡ [])
@@ -102,21 +99,42 @@ shown-moved : {w h w′ h′ : ℕ} {bits bits′ text : List ℕ} → w ≡ w�
     → Shown (FileRock w h bits) w h text
 shown-moved p q r s = rw (p, q, r) s
 
+-- A file has one refusal at most, and one that has a refusal is no map that is shown.
+no-slot-many : {file : List ℕ} → NoSlot file most-markers → {w h : ℕ} {bits : List ℕ} → MapFile file w h bits → ¬ (length (markersOf w h bits) ≤ most-markers)
+no-slot-many {file} n {w} {h} {bits} m l = go (n .many)
+  where
+    same : length (markersOf (n .w) (n .h) (n .bits)) ≡ length (markersOf w h bits)
+    same = let e = map-file-one (n .map) m in rw (e .0, e .1, e .2)
+
+    go : (most-markers < length (markersOf (n .w) (n .h) (n .bits))) ⊎ (most-markers < length (markersOf (n .w) (n .h) (n .bits))) → ⊥
+    go (inl k) = omega (arith, same)
+    go (inr k) = omega (arith, same)
+
+refusal-one : {file : List ℕ} {n m : ℕ} → Refusal file n → Refusal file m → n ≡ m
+refusal-one (fault f) (fault g) = fault-one f g
+refusal-one (fault f) (too-many s e) = absurd (fault-no-map f (s .map))
+refusal-one (too-many s e) (fault f) = absurd (fault-no-map f (s .map))
+refusal-one (too-many s e) (too-many t f) = e ∙ sym f
+
+refusal-no-map : {file bits : List ℕ} {n w h : ℕ} → Refusal file n → MapFile file w h bits → ¬ (length (markersOf w h bits) ≤ most-markers)
+refusal-no-map (fault f) m = absurd (fault-no-map f m)
+refusal-no-map (too-many s e) m = no-slot-many s m
+
 -- Two texts that the promise allows for a file are equal.
 pub charted-one : {file text other : List ℕ} → Charted file text → Charted file other → text ≡ other
 charted-one (too-long l e) (too-long m f) = e ∙ sym f
-charted-one (too-long l e) (at-fault n d m t p f) = absurd (omega arith)
-charted-one (too-long l e) (shown w h rocks shut groups bits line picture m g a b c u v f) = absurd (omega arith)
-charted-one (at-fault n d l t p e) (too-long m f) = absurd (omega arith)
-charted-one (at-fault n d l t p e) (at-fault n′ d′ m t′ p′ f) =
-    let number : n ≡ n′ = fault-one t t′ in
+charted-one (too-long l e) (not-taken n d m t p f) = absurd (omega arith)
+charted-one (too-long l e) (shown w h rocks shut groups bits line picture m g k a b c u v f) = absurd (omega arith)
+charted-one (not-taken n d l t p e) (too-long m f) = absurd (omega arith)
+charted-one (not-taken n d l t p e) (not-taken n′ d′ m t′ p′ f) =
+    let number : n ≡ n′ = refusal-one t t′ in
     let printed : d ≡ d′ = printed-one p (rw number p′) in
     e ∙ rw printed (sym f)
-charted-one (at-fault n d l t p e) (shown w h rocks shut groups bits line picture m g a b c u v f) = absurd (fault-no-map t g)
-charted-one (shown w h rocks shut groups bits line picture l g a b c u v e) (too-long m f) = absurd (omega arith)
-charted-one (shown w h rocks shut groups bits line picture l g a b c u v e) (at-fault n d m t p f) = absurd (fault-no-map t g)
-charted-one {file} {text} {other} (shown w h rocks shut groups bits line picture l g a b c u v e)
-    (shown w′ h′ rocks′ shut′ groups′ bits′ line′ picture′ m g′ a′ b′ c′ u′ v′ f) =
+charted-one (not-taken n d l t p e) (shown w h rocks shut groups bits line picture m g k a b c u v f) = absurd (refusal-no-map t g k)
+charted-one (shown w h rocks shut groups bits line picture l g k a b c u v e) (too-long m f) = absurd (omega arith)
+charted-one (shown w h rocks shut groups bits line picture l g k a b c u v e) (not-taken n d m t p f) = absurd (refusal-no-map t g k)
+charted-one {file} {text} {other} (shown w h rocks shut groups bits line picture l g k a b c u v e)
+    (shown w′ h′ rocks′ shut′ groups′ bits′ line′ picture′ m g′ k′ a′ b′ c′ u′ v′ f) =
     let same = map-file-one g g′ in
     shown-one (FileRock w h bits) w h one (shown-moved (same .0) (same .1) (same .2) two)
   where

@@ -1,15 +1,14 @@
 -- What the program's functions put into the output, piece by piece.
 use mathlib.Core.Path.{_≡_}
 use mathlib.Core.List.{List, [], _∷_, _++_}
-use Prim.Native.Nat.{ℕ, _+_, _*_, _<_, _≤_}
+use Prim.Native.Nat.{ℕ, _+_, _*_, _≤_}
 use lib.ListN.{length, take, drop}
 use Rattle.field.specs.Map.{side, Sides}
 use Rattle.field.specs.Labels.{Closed, RockOn, Shut, Count}
 use Rattle.field.specs.Groups.{Groups}
 use Rattle.labels.specs.declared.Labelled.{Labelled}
 use Rattle.mapfile.specs.File.{FileRock}
-use Rattle.writer.specs.Digits.{digitsOf}
-use Rattle.chart.specs.Promise.{most-bytes, refused, Printed, Line, Picture}
+use Rattle.chart.specs.Promise.{most-bytes, most-printed, line-room, refused, Printed, Line, Picture}
 use Rattle.turning.specs.Turning.{MayTurn}
 
 -- A piece stands in the output from a place on, up to its end. All else is as it was.
@@ -24,49 +23,23 @@ pub record Puts (P : List ℕ → Type 0) (out : List ℕ) (at : ℕ) (after : L
   pub right : P piece
   pub put : Put out at piece after end
 
--- A number that four digits hold: a side, a refusal, a number of crossings.
-unfoldable pub Short : ℕ → Type 0
-Short v = v < 10000
-
--- So many of its lowest digits are the number as it is printed.
-pub record PrintedIn (v n : ℕ) : Type 0 where
-  pub few : n ≤ 4
-  pub printed : Printed v (digitsOf n v)
-
--- A number as it is printed, and one byte after it: five bytes at most.
+-- A number as it is printed, and one byte after it.
 pub record NumberThen (v mark : ℕ) (l : List ℕ) : Type 0 where
   pub digits : List ℕ
   pub printed : Printed v digits
-  pub few : length digits ≤ 4
+  pub few : length digits ≤ most-printed
   pub is : l ≡ digits ++ mark ∷ []
 
--- There is room for a number and one byte from a place on.
-pub record NumberRoom (out : List ℕ) (at v : ℕ) : Type 0 where
-  pub short : Short v
-  pub room : at + 5 ≤ length out
-
--- The first line: five numbers, of five bytes at most each.
+-- The first line: five numbers.
 pub record FirstLine (w h : ℕ) (r : Labelled) (l : List ℕ) : Type 0 where
   pub line : Line (w ∷ h ∷ r .rocks ∷ r .shut ∷ r .groups ∷ []) l
-  pub few : length l ≤ 25
-
-pub record LineRoom (out : List ℕ) (w h : ℕ) (r : Labelled) : Type 0 where
-  pub width : Short w
-  pub height : Short h
-  pub rocks : Short (r .rocks)
-  pub shut : Short (r .shut)
-  pub groups : Short (r .groups)
-  pub room : 25 ≤ length out
+  pub few : length l ≤ line-room
 
 -- "A refusal prints one line, 'refused', a space and the number."
 pub record RefusalLine (n : ℕ) (l : List ℕ) : Type 0 where
   pub digits : List ℕ
   pub printed : Printed n digits
   pub is : l ≡ refused ++ digits ++ 10 ∷ []
-
-pub record RefusalRoom (out : List ℕ) (n : ℕ) : Type 0 where
-  pub short : Short n
-  pub room : length refused + 5 ≤ length out
 
 -- The sheet has row y whole, and the part of the output just the room for it and LF.
 pub record RowRoom (s : List ℕ) (w y : ℕ) (out : List ℕ) : Type 0 where
@@ -100,9 +73,9 @@ BitsShown w h bits text = Shown (FileRock w h (take (h * w) bits)) w h text
 -- The bits can be stamped on the sheet, and there is room for the text of any map of this size.
 pub record MapRoom (w h : ℕ) (bits sheet out : List ℕ) : Type 0 where
   pub turn : MayTurn w h bits sheet
-  pub room : 25 + h * (w + 1) ≤ length out
+  pub room : line-room + h * (w + 1) ≤ length out
 
 -- The file is no longer than the program takes, and there is room for the text of the largest map.
 pub record FileRoom (file out : List ℕ) : Type 0 where
   pub limit : length file ≤ most-bytes
-  pub room : 25 + side * (side + 1) ≤ length out
+  pub room : line-room + side * (side + 1) ≤ length out

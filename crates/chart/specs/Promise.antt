@@ -1,27 +1,44 @@
--- What the labelling program prints. "First line: width, height, rock crossings, shut crossings, groups. Then rows from the north: . open, # rock, o
--- shut. A refusal prints one line, 'refused', a space and the number. A program takes at most 65,536 input bytes; of a longer input it prints only
--- 'refused long'."
+-- What the labelling program prints. "First line: width, height, rock crossings, shut crossings,
+-- groups. Then rows from the north: . open, # rock, o shut. A refusal prints one line, 'refused', a
+-- space and the number. A program takes at most 65,536 input bytes; of a longer input it prints
+-- only 'refused long'."
 use mathlib.Core.Path.{_≡_}
 use mathlib.Core.List.{List, [], _∷_, _++_}
 use Prim.Native.Nat.{ℕ, _+_, _*_, _-_, _<_, _≤_}
 use lib.ListN.{length, getD}
+use Rattle.field.specs.Map.{most-markers}
+use Rattle.field.specs.Refusals.{no-slot}
+use Rattle.field.specs.Limits.{side-number}
 use Rattle.field.specs.Labels.{Closed, RockOn, Shut, Label, Count}
 use Rattle.field.specs.Groups.{Groups}
-use Rattle.mapfile.specs.File.{MapFile, FileRock, FileFault}
-use Rattle.mapfile.specs.Written.{Plain}
+use Rattle.mapfile.specs.Header.{Digit, valueFrom}
+use Rattle.mapfile.specs.File.{MapFile, FileRock, markersOf, FileFault, NoSlot}
 
 -- "A program takes at most 65,536 input bytes"
 unfoldable pub most-bytes : ℕ
 most-bytes = 65536
 
--- The longest text has room in so many bytes.
+-- No number of 64 bits has more decimal digits.
+abbrev pub most-printed : ℕ
+most-printed = 20
+
+-- Room for a number and one byte after it, for the five numbers of the first line, and for the
+-- longest text: that line and the rows of the largest map.
+abbrev pub number-room : ℕ
+number-room = most-printed + 1
+
+abbrev pub line-room : ℕ
+line-room = 5 * number-room
+
 abbrev pub room : ℕ
-room = 4608
+room = line-room + side-number * (side-number + 1)
 
 -- A number as it is printed: decimal digits with no leading zeros, and 0 as one digit.
-pub data Printed (v : ℕ) (l : List ℕ) : Type 0 where
-  nought : v ≡ 0 → l ≡ 48 ∷ [] → Printed v l
-  digits : Plain v l → Printed v l
+pub record Printed (v : ℕ) (l : List ℕ) : Type 0 where
+  pub digits : (k : ℕ) → k < length l → Digit (getD l k 0)
+  pub some : 1 ≤ length l
+  pub value : v ≡ valueFrom 0 l
+  pub leading : 2 ≤ length l → ¬ (getD l 0 0 ≡ 48)
 
 -- Numbers with a space between, and LF after the last.
 pub data Line : List ℕ → List ℕ → Type 0 where
@@ -47,11 +64,18 @@ refused = 114 ∷ 101 ∷ 102 ∷ 117 ∷ 115 ∷ 101 ∷ 100 ∷ 32 ∷ []
 abbrev pub long : List ℕ
 long = 108 ∷ 111 ∷ 110 ∷ 103 ∷ 10 ∷ []
 
+-- The refusal of a file: its fault, or 7 where its rocks are more than the markers that may be in
+-- use.
+pub data Refusal (file : List ℕ) (n : ℕ) : Type 0 where
+  fault : FileFault file n → Refusal file n
+  too-many : NoSlot file most-markers → n ≡ no-slot → Refusal file n
+
 -- The whole text for a file.
 pub data Charted (file text : List ℕ) : Type 0 where
   too-long : most-bytes < length file → text ≡ refused ++ long → Charted file text
-  at-fault : (n : ℕ) (d : List ℕ) → length file ≤ most-bytes → FileFault file n → Printed n d → text ≡ refused ++ d ++ 10 ∷ [] → Charted file text
+  not-taken : (n : ℕ) (d : List ℕ) → length file ≤ most-bytes → Refusal file n → Printed n d → text ≡ refused ++ d ++ 10 ∷ [] → Charted file text
   shown : (w h rocks shut groups : ℕ) (bits line picture : List ℕ) → length file ≤ most-bytes → MapFile file w h bits
+      → length (markersOf w h bits) ≤ most-markers
       → Count w h (RockOn (FileRock w h bits) w h) rocks → Count w h (Shut (FileRock w h bits) w h) shut
       → Groups w h (Closed (FileRock w h bits) w h) groups → Line (w ∷ h ∷ rocks ∷ shut ∷ groups ∷ []) line
       → Picture (FileRock w h bits) w h picture → text ≡ line ++ picture → Charted file text

@@ -1,38 +1,32 @@
-// The labelling program's text: from the bytes of a map file to an output slice. Each piece of the text is written into its own part of the output,
-// and hands back where the next begins.
+// The labelling program's text: from the bytes of a map file to an output slice. Each piece of the
+// text is written into its own part of the output, and hands back where the next begins.
 use field::MOST_CROSSINGS;
 use field::MOST_MARKERS;
+use field::SIDE;
 use turning::turn;
-ghost use Prim.Native.Nat.{_≤_};
+ghost use Prim.Native.Nat.{_+_, _≤_};
 ghost use lib.ListN.{length, take, drop};
 ghost use mathlib.Core.Path.{_≡_};
-ghost use Rattle.chart.specs.Promise.{room, Charted};
-ghost use Rattle.chart.specs.Parts.{Put, Puts, Short, PrintedIn, NumberThen, NumberRoom, FirstLine, LineRoom, RefusalLine, RefusalRoom, RowRoom, RowsRoom, BitsShown, MapRoom, FileRoom};
+ghost use Rattle.chart.specs.Promise.{number-room, line-room, room, refused, Charted};
+ghost use Rattle.chart.specs.Parts.{Put, Puts, NumberThen, FirstLine, RefusalLine, RowRoom, RowsRoom, BitsShown, MapRoom, FileRoom};
 ghost use Rattle.chart.specs.Drawing.{signOf, rowOf, pictureOf};
 
-// Room for the longest text: the first line, and SIDE rows of SIDE signs, each with its LF.
-pub const ROOM: usize = 4608;
+// Room for a number and one byte after it: no usize has more than 20 decimal digits.
+const NUMBER: usize = 21;
+
+// Room for the longest text: the five numbers of the first line, and SIDE rows of SIDE signs, each
+// with its LF.
+pub const ROOM: usize = 5 * NUMBER + SIDE * (SIDE + 1);
 
 // "A program takes at most 65,536 input bytes".
 const MOST_BYTES: usize = 65536;
 
-// How many digits a number is printed with: 0 has one.
-fn digits(v: usize) -> usize
-    requires { ⌜ Short v ⌝ }
-    ensures { λ r. ⌜ PrintedIn v r ⌝ }
-{
-    if v == 0 {
-        return 1;
-    }
-    writer::digit_count(v)
-}
-
 // Writes a number and one byte after it from the place `at` on, and hands back where they end.
 fn put_number(out: &mut [u8], at: usize, v: usize, mark: u8) -> usize
-    requires { ⌜ NumberRoom (now out) at v ⌝ }
+    requires { ⌜ at + number-room ≤ length (now out) ⌝ }
     ensures { λ r. ⌜ Puts (NumberThen v mark) (now (out .entry)) at (now (out .exit)) r ⌝ }
 {
-    let end = at + digits(v);
+    let end = at + writer::digit_count(v);
     writer::write_number(&mut out[at..end], v);
     out[end] = mark;
     end + 1
@@ -40,7 +34,7 @@ fn put_number(out: &mut [u8], at: usize, v: usize, mark: u8) -> usize
 
 // Writes the first line: width, height, rock crossings, shut crossings, groups.
 fn put_line(out: &mut [u8], w: usize, h: usize, found: labels::Labelled) -> usize
-    requires { ⌜ LineRoom (now out) w h found ⌝ }
+    requires { ⌜ line-room ≤ length (now out) ⌝ }
     ensures { λ r. ⌜ Puts (FirstLine w h found) (now (out .entry)) 0 (now (out .exit)) r ⌝ }
 {
     let height = put_number(out, 0, w, b' ');
@@ -89,7 +83,8 @@ fn put_rows(out: &mut [u8], sheet: &[u8], w: usize, h: usize)
     }
 }
 
-// Stamps a raster's bits on a lent sheet of the map's size, labels it, and writes the map's text: the first line, then the rows.
+// Stamps a raster's bits on a lent sheet of the map's size, labels it, and writes the map's text:
+// the first line, then the rows.
 fn put_map(out: &mut [u8], sheet: &mut [u8], bits: &[u8], w: usize, h: usize) -> usize
     requires { ⌜ MapRoom w h (now bits) (now sheet) (now out) ⌝ }
     ensures { λ r. ⌜ Puts (BitsShown w h (now (bits .entry))) (now (out .entry)) 0 (now (out .exit)) r ⌝ }
@@ -115,7 +110,7 @@ fn put_bytes(out: &mut [u8], bytes: &[u8]) -> usize
 
 // Writes a refusal's line: "refused", a space and the number.
 fn put_refusal(out: &mut [u8], n: usize) -> usize
-    requires { ⌜ RefusalRoom (now out) n ⌝ }
+    requires { ⌜ length refused + number-room ≤ length (now out) ⌝ }
     ensures { λ r. ⌜ Puts (RefusalLine n) (now (out .entry)) 0 (now (out .exit)) r ⌝ }
 {
     let number = put_bytes(out, b"refused ");
@@ -139,7 +134,8 @@ fn put_file(out: &mut [u8], src: &[u8]) -> usize
     }
 }
 
-// Writes the text for a map file to the front of the output, and hands back its length. The rest of the output stays.
+// Writes the text for a map file to the front of the output, and hands back its length. The rest of
+// the output stays.
 pub fn chart(src: &[u8], out: &mut [u8; ROOM]) -> usize
     ensures text { λ r. ⌜ (r ≤ room) × Charted (now (src .entry)) (take r (now (out .exit))) ⌝ }
     ensures rest { λ r. ⌜ drop r (now (out .exit)) ≡ drop r (now (out .entry)) ⌝ }

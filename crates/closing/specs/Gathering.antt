@@ -13,13 +13,15 @@ pub record Gathers (w : ℕ) (s : List ℕ) (i v : ℕ) : Type 0 where
   pub below : number w (xOf v) (yOf v) < i
   pub stone : at s w (xOf v) (yOf v) ≡ 1
 
--- The first k on the stack are the rocks among the first i crossings; so these k and the crossings among the i that are open are i together.
+-- The first k on the stack are the rocks among the first i crossings; so these k and the crossings
+-- among the i that are open are i together.
 pub record Gathered (w : ℕ) (s stack : List ℕ) (k i : ℕ) : Type 0 where
   pub count : k + freeTo s i ≡ i
   pub rocks : (j : ℕ) → j < k → Gathers w s i (getD stack j 0)
   pub every : (x y : ℕ) → x < w → number w x y < i → at s w x y ≡ 1 → Waits stack k x y
 
--- (x, y) can be gathered: the crossings before it are, and there is room for each crossing of the sheet.
+-- (x, y) can be gathered: the crossings before it are, and there is room for each crossing of the
+-- sheet.
 pub record GatheringOne (w x y : ℕ) (s stack : List ℕ) (k : ℕ) : Type 0 where
   pub ones : (i : ℕ) → getD s i 0 ≤ 1
   pub packs : Packs x y

@@ -1,4 +1,5 @@
--- The promise of closing: from a sheet on which the rocks are stamped to one that is labelled, but for notes.
+-- The promise of closing: from a sheet on which the rocks are stamped to one that is labelled, but
+-- for notes.
 use mathlib.Core.Path.{_≡_}
 use mathlib.Core.Bool.{cond}
 use mathlib.Core.List.{List}

@@ -1,4 +1,5 @@
-// Finding the closed crossings. Every crossing that becomes closed goes on a stack once, and is looked around once when it is taken off.
+// Finding the closed crossings. Every crossing that becomes closed goes on a stack once, and is
+// looked around once when it is taken off.
 use touching::look_around;
 use touching::pack;
 ghost use mathlib.Core.Path.{_≡_};
@@ -66,7 +67,8 @@ fn drain(s: &mut [u8], w: usize, h: usize, stack: &mut [u16], height: usize)
     }
 }
 
-// Shuts every crossing of the smallest set that is no rock, and leaves notes at others. The stack has a slot for each crossing of the largest map.
+// Shuts every crossing of the smallest set that is no rock, and leaves notes at others. The stack
+// has a slot for each crossing of the largest map.
 pub fn close(s: &mut [u8], w: usize, h: usize)
     requires { ⌜ Stamped w h (now s) ⌝ }
     ensures { λ r. ⌜ Worked (Stones w h (now (s .entry))) w h (now (s .exit)) ⌝ }

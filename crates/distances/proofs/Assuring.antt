@@ -1,4 +1,5 @@
--- Assurance from home's four distances: each axis passes its test exactly where the definition says so, as home has one distance each way.
+-- Assurance from home's four distances: each axis passes its test exactly where the definition says
+-- so, as home has one distance each way.
 use mathlib.Core.Path.{_≡_, refl, sym, subst, ap, _∙_}
 use mathlib.Core.Bool.{Bool, true, false, true≢false, false≢true}
 use mathlib.Core.List.{List, [], _∷_}

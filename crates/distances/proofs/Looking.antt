@@ -1,5 +1,6 @@
--- Looking one way on a sheet, hop by hop, the crossing itself first. While nothing marked has been met, the next hop either ends the look, with
--- its number as the distance, or goes on; past the edge there is nothing more to meet.
+-- Looking one way on a sheet, hop by hop, the crossing itself first. While nothing marked has been
+-- met, the next hop either ends the look, with its number as the distance, or goes on; past the
+-- edge there is nothing more to meet.
 use mathlib.Core.Path.{_≡_, refl}
 use mathlib.Core.List.{List}
 use mathlib.Core.Logic.{_≢_}
@@ -9,7 +10,8 @@ use native.Mathlib.Decide.{decLt}
 use Rattle.field.specs.Map.{On, at, no-distance}
 use Rattle.field.specs.Distances.{Way, Along, Clear, at-closed, nearest, none}
 use Rattle.field.specs.Workings.Sheet.{Marked}
-use Rattle.distances.proofs.Ways.{along-same, along-start}
+use Rattle.distances.specs.Looking.{Edge}
+use Rattle.distances.proofs.Ways.{along-same, along-start, edge-past}
 
 -- Nothing is marked on the first k hops that way.
 pub record Bare (s : List ℕ) (w h : ℕ) (t : Way) (x y k : ℕ) : Type 0 where
@@ -58,3 +60,7 @@ module _ {s : List ℕ} {w h : ℕ} {t : Way} {x y : ℕ} where
           go : Dec (i < k) → ¬ Marked s w h a b
           go (yes q) = f .free i a b q l
           go (no q) = λ m. past i a b (omega arith) l (m .on)
+
+  -- So it is once the hops to the edge are looked at.
+  pub bare-edge : {k n : ℕ} → Bare s w h t x y k → Edge t w h x y n → n < k → Clear (Marked s w h) t x y no-distance
+  bare-edge f e p = bare-past f (λ i a b q l. edge-past t w h i x y a b (omega (arith, e .is)) l)

@@ -1,9 +1,12 @@
--- Hops one way: how many lead where. Only these laws look at the four ways one by one; what rests on them holds over any way.
+-- Hops one way: how many lead where. Only these laws look at the four ways one by one; what rests
+-- on them holds over any way.
 use mathlib.Core.Path.{_≡_}
 use Prim.Native.Nat.{ℕ, _+_, _-_, _<_}
 use native.Mathlib.Omega.{arith}
+use Rattle.field.specs.Map.{On}
 use Rattle.field.specs.Geometry.Links.{moved}
 use Rattle.field.specs.Distances.{Way, eastward, southward, westward, northward, Along}
+use Rattle.distances.specs.Looking.{reach}
 
 -- As many hops that way lead to one crossing.
 along-one : (t : Way) (k j x y a b c d : ℕ) → k ≡ j → Along t k x y a b → Along t j x y c d → (a ≡ c) × (b ≡ d)
@@ -36,3 +39,10 @@ along-rest eastward k x y a b c d p l m = omega arith
 along-rest southward k x y a b c d p l m = omega arith
 along-rest westward k x y a b c d p l m = omega arith
 along-rest northward k x y a b c d p l m = omega arith
+
+-- Past the edge lies no crossing of the map.
+pub edge-past : (t : Way) (w h k x y a b : ℕ) → reach t w h x y < k → Along t k x y a b → ¬ On w h a b
+edge-past eastward w h k x y a b p l o = omega arith
+edge-past southward w h k x y a b p l o = omega arith
+edge-past westward w h k x y a b p l o = omega arith
+edge-past northward w h k x y a b p l o = omega arith

@@ -1,5 +1,6 @@
--- What the code answers over a sheet, said of the closed crossings that the sheet draws: whatever C the sheet's marks are, the answers are C's.
--- Each working gives one answer for one sheet, so the meaning over the marks and the meaning over C are the same.
+-- What the code answers over a sheet, said of the closed crossings that the sheet draws: whatever C
+-- the sheet's marks are, the answers are C's. Each working gives one answer for one sheet, so the
+-- meaning over the marks and the meaning over C are the same.
 use mathlib.Core.List.{List}
 use mathlib.Core.Logic.{_↔_, Iff·symm, Iff·trans}
 use Prim.Native.Nat.{ℕ}

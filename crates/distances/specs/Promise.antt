@@ -1,4 +1,5 @@
--- What assurance is asked of: a sheet that marks the closed crossings, whatever is not 0 on it, home and a place.
+-- What assurance is asked of: a sheet that marks the closed crossings, whatever is not 0 on it,
+-- home and a place.
 use mathlib.Core.List.{List}
 use Prim.Native.Nat.{ℕ}
 use Rattle.field.specs.Map.{On}

@@ -1,6 +1,10 @@
-// Clear distances of one crossing, and whether home is assured, over a sheet that marks the closed crossings.
-mod look; // look.rt: the distance of one crossing
+// Clear distances of one crossing, and whether home is assured, over a sheet that marks the closed
+// crossings.
+mod look; // look.rt: the distance of one crossing, one way
 
+use field::NO_DISTANCE;
+use look::Way;
+use look::look;
 use sheets::mark;
 ghost use mathlib.Core.Path.{_≡_};
 ghost use mathlib.Core.Bool.{true};
@@ -12,7 +16,7 @@ ghost use Rattle.distances.specs.Promise.{AskedHome};
 ghost use Rattle.sheets.specs.Promise.{Asked};
 
 // What stands for a distance where there is none.
-pub const NONE: u8 = 255;
+pub const NONE: u8 = NO_DISTANCE;
 
 // The four distances of (x, y), east, south, west, north.
 pub fn distances(s: &[u8], w: usize, h: usize, x: usize, y: usize) -> [u8; 4]
@@ -20,14 +24,15 @@ pub fn distances(s: &[u8], w: usize, h: usize, x: usize, y: usize) -> [u8; 4]
     ensures { λ r. ⌜ Distances (Marked (now (s .entry)) w h) x y r ⌝ }
 {
     [
-        look::east(s, w, h, x, y),
-        look::south(s, w, h, x, y),
-        look::west(s, w, h, x, y),
-        look::north(s, w, h, x, y),
+        look(s, w, h, x, y, Way::East),
+        look(s, w, h, x, y, Way::South),
+        look(s, w, h, x, y, Way::West),
+        look(s, w, h, x, y, Way::North),
     ]
 }
 
-// Whether home's distance that way leaves room for the offset: it is none, or the offset is less. No other function compares the two.
+// Whether home's distance that way leaves room for the offset: it is none, or the offset is less.
+// No other function compares the two.
 fn enough(offset: usize, n: u8) -> bool
     ensures { λ r. ⌜ r ≡ enoughOf offset n ⌝ }
 {
@@ -37,7 +42,8 @@ fn enough(offset: usize, n: u8) -> bool
     offset < n as usize
 }
 
-// Whether one axis lets home at m be assured for the place at p, with home's distances upwards and downwards on it.
+// Whether one axis lets home at m be assured for the place at p, with home's distances upwards and
+// downwards on it.
 fn axis(up: u8, down: u8, m: usize, p: usize) -> bool
     ensures { λ r. ⌜ r ≡ axisOf up down m p ⌝ }
 {

@@ -1,4 +1,5 @@
--- What the chooser's tests come to, case by case: two candidates and a top bit of 0 or 1, one along the row, or one along the column.
+-- What the chooser's tests come to, case by case: two candidates and a top bit of 0 or 1, one along
+-- the row, or one along the column.
 use mathlib.Core.Path.{_≡_}
 use mathlib.Core.Bool.{true, false}
 use mathlib.Core.List.{List}

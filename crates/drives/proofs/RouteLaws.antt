@@ -1,5 +1,6 @@
--- How a drive is written down. What stands on the route so far, followed by the drive that the chooser makes from the crossing it has come to, is
--- always the whole drive from s; and that crossing is always in the region, so there is a candidate as long as it is not d.
+-- How a drive is written down. What stands on the route so far, followed by the drive that the
+-- chooser makes from the crossing it has come to, is always the whole drive from s; and that
+-- crossing is always in the region, so there is a candidate as long as it is not d.
 use mathlib.Core.Path.{_≡_, refl, sym, ap, _∙_}
 use mathlib.Core.Bool.{true}
 use mathlib.Core.List.{List, [], _∷_, _++_, append-assoc}
@@ -17,10 +18,9 @@ use Rattle.field.specs.Workings.Reaching.{eastWestIn, northSouthIn, chosenOf, d
 use Rattle.field.specs.Workings.GridLaws.{Toward, along-row, along-column, dist-none}
 use Rattle.field.specs.Workings.RegionLaws.{has-drive-in, region-sheet-draws}
 use Rattle.field.specs.Workings.ChooserLaws.{candidate-toward, candidate-some, chosen-candidate}
-use Rattle.field.specs.Workings.ChoosingLaws.{chosen-looks, driven-looks}
+use Rattle.field.specs.Workings.ChoosingLaws.{chosen-looks}
 use Rattle.drives.specs.declared.chooser.Choice.{Choice}
-use Rattle.regions.specs.Promise.{Asked}
-use Rattle.drives.specs.Promise.{Filling}
+use Rattle.regions.specs.Promise.{RegionAsked}
 use Rattle.regions.specs.Passes.{Looked}
 use Rattle.drives.specs.Hops.{Choosable, Chose, Steered, Written}
 use Rattle.regions.proofs.LookLaws.{east-west-tells, north-south-tells}
@@ -135,19 +135,7 @@ gap-lt : {a b m : ℕ} → a < m → b < m → gap a b < m
 unfolding gap
 gap-lt l r = omega arith
 
-pub dist-small : {w h sx sy dx dy : ℕ} {s g : List ℕ} → Asked w h s g sx sy dx dy → dist sx sy dx dy + 1 < 65536
+pub dist-small : {w h sx sy dx dy : ℕ} {s g : List ℕ} → RegionAsked w h s g sx sy dx dy → dist sx sy dx dy + 1 < 65536
 unfolding side
 dist-small k =
     omega (arith, k .sides .most-w, k .sides .most-h, gap-lt (k .from .in-x) (k .to .in-x), gap-lt (k .from .in-y) (k .to .in-y))
-
--- What is written is the chooser's drive.
-pub written-filling : (w h : ℕ) (C : ℕ → ℕ → Type 0) (sx sy dx dy z n z′ : ℕ) (g route route′ : List ℕ) → RegionSheet w h C sx sy dx dy g
-    → HasDrive w h C sx sy dx dy → n ≡ dist sx sy dx dy + 1 → n ≤ length route → Written w h g sx sy dx dy z route route′ z′
-    → Filling w h C sx sy dx dy z n z′ route route′
-written-filling w h C sx sy dx dy z n z′ g route route′ G r e l k =
-    record {
-      driven = rw e (driven-looks w h C sx sy dx dy g G z z′ _ r .1 (k .front, k .state));
-      crossings = e;
-      fits = l;
-      rest = rw e (k .rest);
-    }

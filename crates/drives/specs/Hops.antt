@@ -1,5 +1,6 @@
--- What the chooser's code does: one choice, and a whole drive written down. Each is said by the working that computes it; the working agrees with
--- the chooser's meaning wherever the sheet is a region sheet.
+-- What the chooser's code does: one choice, and a whole drive written down. Each is said by the
+-- working that computes it; the working agrees with the chooser's meaning wherever the sheet is a
+-- region sheet.
 use mathlib.Core.Path.{_≡_}
 use mathlib.Core.Bool.{true}
 use mathlib.Core.List.{List}
@@ -24,7 +25,8 @@ pub record Chose (w h : ℕ) (g : List ℕ) (dx dy x y z : ℕ) (c : Choice) : T
   pub y-is : c .y ≡ chosenOf g w h dx dy x y z .y
   pub state-is : c .state ≡ chosenOf g w h dx dy x y z .state
 
--- g is the region sheet of some sheet of closed crossings on which there is a shortest drive, and the route has room for it.
+-- g is the region sheet of some sheet of closed crossings on which there is a shortest drive, and
+-- the route has room for it.
 pub record Steered (w h : ℕ) (g : List ℕ) (sx sy dx dy : ℕ) (route : List ℕ) : Type 0 where
   pub looked : Looked w h g dx dy sx sy
   pub closed : List ℕ
@@ -32,7 +34,8 @@ pub record Steered (w h : ℕ) (g : List ℕ) (sx sy dx dy : ℕ) (route : List 
   pub some : HasDrive w h (Marked closed w h) sx sy dx dy
   pub room : dist sx sy dx dy < length route
 
--- The route's front holds the drive from (sx, sy) in state z, the rest is as it was, and z′ is the state after it.
+-- The route's front holds the drive from (sx, sy) in state z, the rest is as it was, and z′ is the
+-- state after it.
 pub record Written (w h : ℕ) (g : List ℕ) (sx sy dx dy z : ℕ) (route route′ : List ℕ) (z′ : ℕ) : Type 0 where
   pub front : take (dist sx sy dx dy + 1) route′ ≡ driveOf g w h dx dy (dist sx sy dx dy) sx sy z .route
   pub rest : drop (dist sx sy dx dy + 1) route′ ≡ drop (dist sx sy dx dy + 1) route

@@ -28,8 +28,8 @@ pub fn offset(a: usize, b: usize) -> usize
     a - b
 }
 
-// The choice at (x, y) in state z. The candidates are the marked hops towards d: with two, draw, and the top bit 0 takes the east-west one; with
-// one, take it and leave the state.
+// The choice at (x, y) in state z. The candidates are the marked hops towards d: with two, draw,
+// and the top bit 0 takes the east-west one; with one, take it and leave the state.
 pub fn choose(
     g: &[u8],
     w: usize,
@@ -74,8 +74,8 @@ pub fn choose(
     }
 }
 
-// Writes the chooser's drive from (sx, sy) in state z to the route's front, and hands back the state after it. There are as many hops as the
-// distance; k of them are made.
+// Writes the chooser's drive from (sx, sy) in state z to the route's front, and hands back the
+// state after it. There are as many hops as the distance; k of them are made.
 pub fn write_drive(
     g: &[u8],
     w: usize,

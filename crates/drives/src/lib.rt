@@ -4,12 +4,13 @@ mod chooser; // chooser.rt: the choice at a crossing, and a drive written down
 ghost use mathlib.Core.Path.{_≡_};
 ghost use Prim.Native.Nat.{_*_, _%_};
 ghost use Rattle.field.specs.Chooser.{drawn};
-ghost use Rattle.regions.specs.Promise.{Asked};
+ghost use Rattle.regions.specs.Promise.{RegionAsked};
 ghost use Rattle.drives.specs.Promise.{Makes};
 use regions::Found;
 
-// What asking for a drive makes: nothing, an end being closed (8), there being no shortest drive (9) or the route too short (10); or so many
-// crossings at the route's front, and the state after it.
+// What asking for a drive makes: nothing, an end being closed (8), there being no shortest drive
+// (9) or the route too short (10); or so many crossings at the route's front, and the state after
+// it.
 pub enum Made {
     Closed,
     NoDrive,
@@ -32,8 +33,9 @@ pub fn draw(z: u32) -> u32
     std::num::wrapping_add_u32(wrapping_product(1664525, z), 1013904223)
 }
 
-// The chooser's drive from (sx, sy) to (dx, dy) in state z, into the front of a lent route; the rest of the route stays. The region comes
-// first, and only when there is a shortest drive is the route's length looked at: at 8, 9 and 10 the route stays as it was.
+// The chooser's drive from (sx, sy) to (dx, dy) in state z, into the front of a lent route; the
+// rest of the route stays. The region comes first, and only when there is a shortest drive is the
+// route's length looked at: at 8, 9 and 10 the route stays as it was.
 pub fn fill(
     s: &[u8],
     w: usize,
@@ -46,7 +48,7 @@ pub fn fill(
     g: &mut [u8],
     route: &mut [u16],
 ) -> Made
-    requires { ⌜ Asked w h (now s) (now g) sx sy dx dy ⌝ }
+    requires { ⌜ RegionAsked w h (now s) (now g) sx sy dx dy ⌝ }
     ensures { λ r. ⌜ Makes w h (now (s .entry)) sx sy dx dy z (now (g .entry)) (now (g .exit)) (now (route .entry)) (now (route .exit)) r ⌝ }
 {
     let found = regions::region(s, w, h, sx, sy, dx, dy, g);

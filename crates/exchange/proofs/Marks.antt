@@ -1,4 +1,5 @@
--- The marks of a sheet, counted from its front: one crossing more counts one mark more where it is marked.
+-- The marks of a sheet, counted from its front: one crossing more counts one mark more where it is
+-- marked.
 use mathlib.Core.Path.{_≡_, ap, _∙_}
 use mathlib.Core.List.{List, [], _∷_}
 use Prim.Native.Nat.{ℕ, zero, suc, _+_, _<_}

@@ -1,4 +1,5 @@
--- The next rock in raster order: past a crossing that is none there is one ahead still. And a rock's marker: its id, column and row fit a record's fields.
+-- The next rock in raster order: past a crossing that is none there is one ahead still. And a
+-- rock's marker: its id, column and row fit a record's fields.
 use mathlib.Core.Path.{_≡_, ap, _∙_}
 use mathlib.Core.List.{List}
 use Prim.Native.Nat.{ℕ, _+_, _/_, _%_, _^_, _<_, _≤_}

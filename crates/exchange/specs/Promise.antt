@@ -1,23 +1,23 @@
--- What the parts of the two map-file calls promise that need no list of records. Writing: the map's size is told, and once the rocks are stamped on a
--- sheet of that size, the second part finds 16 and 17 or writes. Reading: the first part finds every refusal and has the file's bits; the second part goes
--- from rock to rock.
+-- What the parts of the two map-file calls promise that need no list of records. Writing: the map's
+-- size is told, and once the rocks are stamped on a sheet of that size, the second part finds 16
+-- and 17 or writes. Reading: the first part finds every refusal and has the file's bits; the second
+-- part goes from rock to rock.
 use mathlib.Core.Path.{_≡_}
 use mathlib.Core.List.{List}
-use mathlib.Core.Logic.{_⊎_}
 use Prim.Native.Nat.{ℕ, _*_, _<_, _≤_}
 use lib.ListN.{length, getD}
 use Rattle.field.specs.Map.{Sides, side, most-markers}
-use Rattle.field.specs.Refusals.{success, no-slot, shared-crossing}
+use Rattle.field.specs.Refusals.{success, shared-crossing}
 use Rattle.field.specs.Workings.MarkCount.{marks}
-use Rattle.mapfile.specs.File.{FileFault, NoSlot}
 use Rattle.writer.specs.Promise.{Asked, Writes, wroteNumber}
 use Rattle.writer.specs.declared.Wrote.{Wrote}
 use Rattle.writer.specs.declared.Wrote.the-variants.{Bytes, Short}
 use Rattle.reader.specs.Promise.{readNumber, Taken}
 use Rattle.reader.specs.declared.Reading.{Reading}
 use Rattle.reader.specs.declared.Reading.the-variants.{Map, Refused}
-use Rattle.exchange.specs.declared.ReadMap.{ReadMap}
-use Rattle.exchange.specs.declared.WroteMap.{WroteMap}
+use Rattle.calls.specs.Answers.{no-map, no-bytes, ReadFault}
+use Rattle.calls.specs.declared.ReadMap.{ReadMap}
+use Rattle.calls.specs.declared.WroteMap.{WroteMap}
 
 -- How many crossings the map has. Whatever is asked, it is at most as many as a map may have.
 pub record Area (w h r : ℕ) : Type 0 where
@@ -27,33 +27,30 @@ pub record Area (w h r : ℕ) : Type 0 where
 -- Document 01's values for each answer of the writer.
 abbrev pub wroteMap : Wrote → WroteMap
 wroteMap (Bytes n) = record { refusal = wroteNumber (Bytes n); bytes = n }
-wroteMap Short = record { refusal = wroteNumber Short; bytes = 0 }
+wroteMap Short = no-bytes (wroteNumber Short)
 
--- A refusal's answer: its number only.
-abbrev pub not-written : ℕ → WroteMap
-not-written n = record { refusal = n; bytes = 0 }
-
--- What the second part asks: where nothing is refused so far, a map within the limits and a sheet of its size.
+-- What the second part asks: where nothing is refused so far, a map within the limits and a sheet
+-- of its size.
 abbrev pub MayWrite : ℕ → ℕ → ℕ → List ℕ → Type 0
 MayWrite n w h sheet = n ≡ success → Asked w h sheet
 
--- The second part of writing, after a first part that gave n. `count` markers are stamped on the sheet: fewer marks than markers mean that two share a
--- crossing.
+-- The second part of writing, after a first part that gave n. `count` markers are stamped on the
+-- sheet: fewer marks than markers mean that two share a crossing.
 pub data WriteRest (n count w h : ℕ) (sheet out after : List ℕ) (r : WroteMap) : Type 0 where
-  refused : ¬ (n ≡ success) → r ≡ not-written n → after ≡ out → WriteRest n count w h sheet out after r
-  shared : n ≡ success → ¬ (marks sheet ≡ count) → r ≡ not-written shared-crossing → after ≡ out → WriteRest n count w h sheet out after r
+  refused : ¬ (n ≡ success) → r ≡ no-bytes n → after ≡ out → WriteRest n count w h sheet out after r
+  shared : n ≡ success → ¬ (marks sheet ≡ count) → r ≡ no-bytes shared-crossing → after ≡ out → WriteRest n count w h sheet out after r
   written : (answer : Wrote) → n ≡ success → marks sheet ≡ count → Writes w h sheet out after answer → r ≡ wroteMap answer
       → WriteRest n count w h sheet out after r
 
 -- Document 01's values for each answer of the reader.
 abbrev pub readMap : Reading → ReadMap
 readMap (Map w h count) = record { refusal = readNumber (Map w h count); width = w; height = h; count = count }
-readMap (Refused n) = record { refusal = readNumber (Refused n); width = 0; height = 0; count = 0 }
+readMap (Refused n) = no-map (readNumber (Refused n))
 
--- The first part of reading: the refusal of the file, or of its rocks where they find no slot, or the map, whose bits are the first of the bytes handed
--- back.
+-- The first part of reading: the refusal of the file, or of its rocks where they find no slot, or
+-- the map, whose bits are the first of the bytes handed back.
 pub data ReadFirst (file : List ℕ) (lent : ℕ) (out : List ℕ) (r : ReadMap) : Type 0 where
-  refused : (n : ℕ) → FileFault file n ⊎ (NoSlot file lent × (n ≡ no-slot)) → r ≡ readMap (Refused n) → ReadFirst file lent out r
+  refused : (n : ℕ) → ReadFault file lent n → r ≡ readMap (Refused n) → ReadFirst file lent out r
   found : (w h count : ℕ) → Taken file lent w h count out → r ≡ readMap (Map w h count) → ReadFirst file lent out r
 
 -- What the next rock asks: there is one at `from` or after it.
@@ -70,7 +67,8 @@ pub record NextRock (bits : List ℕ) (from r : ℕ) : Type 0 where
   pub rock : ¬ (getD bits r 0 ≡ 0)
   pub first : (i : ℕ) → from ≤ i → i < r → getD bits i 0 ≡ 0
 
--- What a rock's marker asks: its place is on a map within the limits, and there are fewer rocks before it than may be in use.
+-- What a rock's marker asks: its place is on a map within the limits, and there are fewer rocks
+-- before it than may be in use.
 pub record MayMark (w h place k : ℕ) : Type 0 where
   pub sides : Sides w h
   pub on : place < h * w

@@ -20,14 +20,15 @@ module _ (w h : ℕ) (C : ℕ → ℕ → Type 0) (sx sy dx dy : ℕ) where
     pub within : InRegion w h C sx sy dx dy a b
     pub nearer : dist a b dx dy + 1 ≡ dist x y dx dy
 
-  -- At (x, y) in state z the chooser takes (a, b), in state z′. "With one, take it. With two, draw: ... top bit 0 takes the east-west candidate,
-  -- 1 the north-south one. No draw is made otherwise."
+  -- At (x, y) in state z the chooser takes (a, b), in state z′. "With one, take it. With two, draw:
+  -- ... top bit 0 takes the east-west candidate, 1 the north-south one. No draw is made otherwise."
   pub data Chosen (x y z a b z′ : ℕ) : Type 0 where
     alone : Candidate x y a b → ((c d : ℕ) → Candidate x y c d → (c ≡ a) × (d ≡ b)) → z′ ≡ z → Chosen x y z a b z′
     east-west : (d : ℕ) → Candidate x y a b → b ≡ y → Candidate x y x d → z′ ≡ drawn z → top z′ ≡ 0 → Chosen x y z a b z′
     north-south : (c : ℕ) → Candidate x y a b → a ≡ x → Candidate x y c y → z′ ≡ drawn z → top z′ ≡ 1 → Chosen x y z a b z′
 
-  -- The drive that the chooser makes from (x, y) in state z: its crossing numbers, d last, and the state after it.
+  -- The drive that the chooser makes from (x, y) in state z: its crossing numbers, d last, and the
+  -- state after it.
   pub data Driven : ℕ → ℕ → ℕ → List ℕ → ℕ → Type 0 where
     arrived : {x y z z′ : ℕ} {l : List ℕ} → x ≡ dx → y ≡ dy → l ≡ number w x y ∷ [] → z′ ≡ z → Driven x y z l z′
     onward : {x y z a b z′ z″ : ℕ} {l m : List ℕ} → Chosen x y z a b z′ → Driven a b z′ m z″ → l ≡ number w x y ∷ m → Driven x y z l z″

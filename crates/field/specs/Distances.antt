@@ -17,8 +17,8 @@ Along southward k x y a b = (a ≡ x) × (b + k ≡ y)
 Along westward k x y a b = (a + k ≡ x) × (b ≡ y)
 Along northward k x y a b = (a ≡ x) × (b ≡ y + k)
 
--- "the hops along its row or column to the nearest closed crossing that way, or 255 if there is none. At a closed crossing all four are 0."
--- n is the distance of (x, y) that way.
+-- "the hops along its row or column to the nearest closed crossing that way, or 255 if there is
+-- none. At a closed crossing all four are 0." n is the distance of (x, y) that way.
 pub data Clear (C : ℕ → ℕ → Type 0) (t : Way) (x y n : ℕ) : Type 0 where
   at-closed : C x y → n ≡ 0 → Clear C t x y n
   nearest : (a b : ℕ) → ¬ C x y → Along t n x y a b → C a b
@@ -47,15 +47,16 @@ pub data Enough (offset n : ℕ) : Type 0 where
   nothing-that-way : n ≡ no-distance → Enough offset n
   nearer : offset < n → Enough offset n
 
--- One axis, home at m and the place at p on it; D tells home's distances on this axis, upwards and downwards. "the offset from home to the place
--- is 0, or home's distance that way is 255, or the offset is less than that distance"
+-- One axis, home at m and the place at p on it; D tells home's distances on this axis, upwards and
+-- downwards. "the offset from home to the place is 0, or home's distance that way is 255, or the
+-- offset is less than that distance"
 pub data Axis (D : Way → ℕ → Type 0) (up down : Way) (m p : ℕ) : Type 0 where
   level : p ≡ m → Axis D up down m p
   above : m < p → (n : ℕ) → D up n → Enough (gap m p) n → Axis D up down m p
   below : p < m → (n : ℕ) → D down n → Enough (gap m p) n → Axis D up down m p
 
--- "Home is *assured* for a place when both are open and, on each axis, the offset from home to the place is 0, or home's distance that way is
--- 255, or the offset is less than that distance."
+-- "Home is *assured* for a place when both are open and, on each axis, the offset from home to the
+-- place is 0, or home's distance that way is 255, or the offset is less than that distance."
 pub record Assured (w h : ℕ) (C : ℕ → ℕ → Type 0) (hx hy x y : ℕ) : Type 0 where
   pub home : Open w h C hx hy
   pub place : Open w h C x y

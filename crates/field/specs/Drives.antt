@@ -1,4 +1,5 @@
--- Shortest drives and their region. C tells the closed crossings; a drive is a list of crossing numbers, s first and d last.
+-- Shortest drives and their region. C tells the closed crossings; a drive is a list of crossing
+-- numbers, s first and d last.
 use mathlib.Core.Path.{_≡_}
 use mathlib.Core.List.{List, [], _∷_}
 use Prim.Native.Nat.{ℕ, _+_, _*_, _<_}
@@ -11,8 +12,9 @@ pub data Drive (w h : ℕ) (C : ℕ → ℕ → Type 0) (dx dy : ℕ) : ℕ → 
   last : {x y : ℕ} {l : List ℕ} → x ≡ dx → y ≡ dy → Open w h C x y → l ≡ number w x y ∷ [] → Drive w h C dx dy x y l
   next : {x y a b : ℕ} {l m : List ℕ} → Open w h C x y → Near x y a b → Drive w h C dx dy a b m → l ≡ number w x y ∷ m → Drive w h C dx dy x y l
 
--- "A shortest drive from s to d is a sequence of open crossings, each a neighbour of the one before, from s to d, with as many hops as their
--- distance". A list of k crossings makes k - 1 hops. "From a crossing to itself it has 0 hops."
+-- "A shortest drive from s to d is a sequence of open crossings, each a neighbour of the one
+-- before, from s to d, with as many hops as their distance". A list of k crossings makes k - 1
+-- hops. "From a crossing to itself it has 0 hops."
 pub record ShortestDrive (w h : ℕ) (C : ℕ → ℕ → Type 0) (sx sy dx dy : ℕ) (l : List ℕ) : Type 0 where
   pub drive : Drive w h C dx dy sx sy l
   pub hops : length l ≡ dist sx sy dx dy + 1

@@ -1,4 +1,5 @@
--- Geometry of stable sets of crossings, for any C that is on the map, stable and decidable. Theorems states what it comes to.
+-- Geometry of stable sets of crossings, for any C that is on the map, stable and decidable.
+-- Theorems states what it comes to.
 pub mod Shapes
 pub mod Lines
 pub mod Links

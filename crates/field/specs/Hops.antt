@@ -1,4 +1,5 @@
--- Single hops homeward, their answer, and sequences of them. C tells the closed crossings, (hx, hy) is home.
+-- Single hops homeward, their answer, and sequences of them. C tells the closed crossings, (hx, hy)
+-- is home.
 use mathlib.Core.Path.{_≡_}
 use Prim.Native.Nat.{ℕ, _+_}
 use Rattle.field.specs.Map.{Near, dist}
@@ -20,7 +21,8 @@ pub data HopAnswer : Type 0 where
   one : ℕ → ℕ → HopAnswer
   two : ℕ → ℕ → ℕ → ℕ → HopAnswer
 
--- "The answer names every permitted hop, the east-west one first." An east-west hop keeps the row, a north-south one the column.
+-- "The answer names every permitted hop, the east-west one first." An east-west hop keeps the row,
+-- a north-south one the column.
 pub data Answers (w h : ℕ) (C : ℕ → ℕ → Type 0) (hx hy x y : ℕ) (r : HopAnswer) : Type 0 where
   at-home : There hx hy x y → r ≡ there → Answers w h C hx hy x y r
   just : (a b : ℕ) → Permitted w h C hx hy x y a b → ((c d : ℕ) → Permitted w h C hx hy x y c d → (c ≡ a) × (d ≡ b))

@@ -17,7 +17,8 @@ pub record Rock (list : List Marker) (x y : ℕ) : Type 0 where
   pub x-is : getD list slot blank .x ≡ x
   pub y-is : getD list slot blank .y ≡ y
 
--- "Closed crossings are the smallest set that holds all rocks and every crossing with two or more closed neighbours." R tells the rocks.
+-- "Closed crossings are the smallest set that holds all rocks and every crossing with two or more
+-- closed neighbours." R tells the rocks.
 pub data Closed (R : ℕ → ℕ → Type 0) (w h : ℕ) : ℕ → ℕ → Type 0 where
   rock : {x y : ℕ} → On w h x y → R x y → Closed R w h x y
   between : {x y a b c d : ℕ} → On w h x y → Near x y a b → Near x y c d → Apart a b c d
@@ -27,7 +28,8 @@ pub data Closed (R : ℕ → ℕ → Type 0) (w h : ℕ) : ℕ → ℕ → Type 
 abbrev pub Stable : ℕ → ℕ → (ℕ → ℕ → Type 0) → Type 0
 Stable w h C = (x y a b c d : ℕ) → On w h x y → Near x y a b → Near x y c d → Apart a b c d → C a b → C c d → C x y
 
--- Closed is such a set on the map, and is contained in every set that holds the rocks and is stable: it is the smallest.
+-- Closed is such a set on the map, and is contained in every set that holds the rocks and is
+-- stable: it is the smallest.
 module _ (R : ℕ → ℕ → Type 0) (w h : ℕ) where
   pub closed-stable : Stable w h (Closed R w h)
   closed-stable x y a b c d o n m t p q = between o n m t p q
@@ -76,7 +78,8 @@ abbrev pub one : {P : Type 0} → Dec P → ℕ
 one (yes p) = 1
 one (no n) = 0
 
--- How many crossings of the map are in P: one for each that is. However P is decided, the number is the same.
+-- How many crossings of the map are in P: one for each that is. However P is decided, the number is
+-- the same.
 unfoldable pub count : ℕ → ℕ → (P : ℕ → ℕ → Type 0) → ((x y : ℕ) → Dec (P x y)) → ℕ
 count w h P d = sumTo h (λ y. sumTo w (λ x. one (d x y)))
 

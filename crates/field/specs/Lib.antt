@@ -1,5 +1,7 @@
--- What document 01 defines. The eight modules first named are meanings: relations in the document's words, which a reader must believe.
--- Limits has the numbers that the code's constants share with them. Workings compute, and each agrees with its meaning; Geometry has the theorems that need no code; the table holds the settled examples.
+-- What document 01 defines. The eight modules first named are meanings: relations in the document's
+-- words, which a reader must believe. Limits has the numbers that the code's constants share with
+-- them. Workings compute, and each agrees with its meaning; Geometry has the theorems that need no
+-- code; Table has the settled examples, and FurtherTable what they leave open.
 pub mod Map
 pub mod Refusals
 pub mod Labels
@@ -13,3 +15,5 @@ pub mod Workings
 pub mod Geometry
 pub mod Table
 pub mod Settled
+pub mod FurtherTable
+pub mod Further

@@ -1,11 +1,12 @@
--- The limits as the code's constants have them. Every proof that needs such a number cites it from here.
+-- The limits as the code's constants have them. Every proof that needs such a number cites it from
+-- here.
 use mathlib.Core.Path.{_≡_, refl}
 use Prim.Native.Nat.{ℕ, _*_, _≤_}
 use native.Mathlib.Omega.{arith}
 use native.Mathlib.Nat.{mul-le-mul}
-use Rattle.field.specs.Map.{side, most-markers, Sides}
+use Rattle.field.specs.Map.{side, most-markers, no-distance, Sides}
 
--- The constants' numbers: SIDE, MOST_CROSSINGS, MOST_MARKERS.
+-- The constants' numbers: SIDE, MOST_CROSSINGS, MOST_MARKERS, NO_DISTANCE.
 abbrev pub side-number : ℕ
 side-number = 64
 
@@ -15,6 +16,9 @@ crossing-slots = 4096
 abbrev pub marker-slots : ℕ
 marker-slots = 4096
 
+abbrev pub distance-mark : ℕ
+distance-mark = 255
+
 pub side-is : side ≡ side-number
 unfolding side
 side-is = refl
@@ -22,6 +26,10 @@ side-is = refl
 pub most-markers-is : most-markers ≡ marker-slots
 unfolding most-markers
 most-markers-is = refl
+
+pub no-distance-is : no-distance ≡ distance-mark
+unfolding no-distance
+no-distance-is = refl
 
 pub most-crossings-is : side * side ≡ crossing-slots
 unfolding side

@@ -1,4 +1,5 @@
--- The map: limits, crossings and their numbers, neighbours, distance. Every statement is over the limits' names.
+-- The map: limits, crossings and their numbers, neighbours, distance. Every statement is over the
+-- limits' names.
 use mathlib.Core.Path.{_≡_}
 use mathlib.Core.List.{List}
 use Prim.Native.Nat.{ℕ, _+_, _*_, _-_, _<_, _≤_}
@@ -23,8 +24,8 @@ pub record Sides (w h : ℕ) : Type 0 where
   pub most-w : w ≤ side
   pub most-h : h ≤ side
 
--- "A crossing is (x, y), x rising to the east from 0, y rising to the north from 0." Places "are off the map if x is not below the width or y
--- not below the height".
+-- "A crossing is (x, y), x rising to the east from 0, y rising to the north from 0." Places "are
+-- off the map if x is not below the width or y not below the height".
 pub record On (w h x y : ℕ) : Type 0 where
   pub in-x : x < w
   pub in-y : y < h
@@ -37,8 +38,9 @@ number w x y = y * w + x
 abbrev pub at : List ℕ → ℕ → ℕ → ℕ → ℕ
 at s w x y = getD s (number w x y) 0
 
--- "Neighbours differ by one in x or in y, never both." (a, b) is a neighbour of (x, y). What lies past the edge is no crossing of the map, and
--- no set of crossings has it: so "an edge crossing simply has fewer neighbours".
+-- "Neighbours differ by one in x or in y, never both." (a, b) is a neighbour of (x, y). What lies
+-- past the edge is no crossing of the map, and no set of crossings has it: so "an edge crossing
+-- simply has fewer neighbours".
 pub data Near (x y a b : ℕ) : Type 0 where
   east : a ≡ x + 1 → b ≡ y → Near x y a b
   west : a + 1 ≡ x → b ≡ y → Near x y a b

@@ -1,4 +1,5 @@
--- Document 01's refusal numbers, each by a name; src/refusals.rt has the same for the code. "The lowest number that applies is given", but for reading a file.
+-- Document 01's refusal numbers, each by a name; src/refusals.rt has the same for the code. "The
+-- lowest number that applies is given", but for reading a file.
 use Prim.Native.Nat.{ℕ}
 
 -- "(0 on success)"
@@ -53,7 +54,8 @@ not-assured = 11
 abbrev pub bad-letters : ℕ
 bad-letters = 12
 
--- header against the rules or cut short, or a P1 raster byte before the last digit that is neither digit 0, 1 nor blank
+-- header against the rules or cut short, or a P1 raster byte before the last digit that is neither
+-- digit 0, 1 nor blank
 abbrev pub bad-header : ℕ
 bad-header = 13
 

@@ -1,17 +1,19 @@
--- Document 01's settled examples 1 to 11 as one table of rows, and what it means that a row holds, said with the meanings. Only `picture` is drawn by two
--- workings, `sheet` and `rockOf`, which a reader must believe here too.
--- "Map 8 by 8 unless said. Those with * are the proved set." That every row holds is proved in Settled.
+-- Document 01's settled examples 1 to 11 as one table of rows, and what it means that a row holds,
+-- said with the meanings. Only `picture` is drawn by two workings, `sheet` and `rockOf`, which a
+-- reader must believe here too. "Map 8 by 8 unless said. Those with * are the proved set." That
+-- every row holds is proved in Settled.
 use mathlib.Core.Path.{_≡_}
 use mathlib.Core.Bool.{cond}
 use mathlib.Core.List.{List, [], _∷_}
 use mathlib.Core.Logic.{_↔_}
-use Prim.Native.Nat.{ℕ, suc, _+_, _≤_}
+use Prim.Native.Nat.{ℕ, suc, _+_}
 use lib.ListN.{length}
 use Rattle.field.specs.declared.Marker.{Marker}
 use Rattle.field.specs.Map.{On}
 use Rattle.field.specs.Labels.{Rock, RockOn, Closed, Open, Shut, LabelSheet, Count}
 use Rattle.field.specs.Groups.{Linked, Groups}
 use Rattle.field.specs.Distances.{Way, Clear, Distances, Assured}
+use Rattle.field.specs.Hops.{HopAnswer, Answers}
 use Rattle.field.specs.Drives.{ShortestDrive, HasDrive, InRegion}
 use Rattle.field.specs.Chooser.{Driven}
 use Rattle.field.specs.Geometry.Shapes.{Within}
@@ -44,7 +46,8 @@ RocksOn ps = Rock (markersOn ps)
 abbrev pub ClosedBy : List Place → ℕ → ℕ → Type 0
 ClosedBy ps = Closed (RocksOn ps) wide high
 
--- A label sheet drawn from its rocks and its shut crossings: 1 on the rocks, 2 on the shut ones, and 0 elsewhere.
+-- A label sheet drawn from its rocks and its shut crossings: 1 on the rocks, 2 on the shut ones,
+-- and 0 elsewhere.
 abbrev pub picture : List Place → List Place → List ℕ
 picture rocks shut =
     sheet wide high (λ x y. cond (rockOf (markersOn rocks) x y) 1 (cond (rockOf (markersOn shut) x y) 2 0))
@@ -56,7 +59,8 @@ EachShut rocks (p ∷ ps) = Shut (RocksOn rocks) wide high (p .x) (p .y) × Each
 
 -- One example's claim.
 pub data Row : Type 0 where
-  -- these rocks, on as many crossings, have these shut crossings and nothing else, and so many groups and open crossings
+  -- these rocks, on as many crossings, have these shut crossings and nothing else, and so many
+  -- groups and open crossings
   labels : (rocks shut : List Place) (groups opens : ℕ) → Row
   -- the group of (x₀, y₀) is x₀ to x₁ by y₀ to y₁
   group : (rocks : List Place) (x₀ x₁ y₀ y₁ : ℕ) → Row
@@ -67,7 +71,10 @@ pub data Row : Type 0 where
   -- home (hx, hy) is assured for (x, y), or is not
   assured : (rocks : List Place) (hx hy x y : ℕ) → Row
   not-assured : (rocks : List Place) (hx hy x y : ℕ) → Row
-  -- from s to d: both ends open, and no shortest drive, which is refusal 9; or a shortest drive of n hops
+  -- home (hx, hy) is assured for (x, y), and a hop asked there has this answer
+  hop : (rocks : List Place) (hx hy x y : ℕ) (answer : HopAnswer) → Row
+  -- from s to d: both ends open, and no shortest drive, which is refusal 9; or a shortest drive of
+  -- n hops
   refused-9 : (rocks : List Place) (sx sy dx dy : ℕ) → Row
   drive : (rocks : List Place) (sx sy dx dy n : ℕ) → Row
   -- the region from s to d has n crossings; the crossings x₀ to x₁ by y₀ to y₁ are outside it
@@ -90,6 +97,8 @@ Holds (each-distance rocks n) = (t : Way) (x y : ℕ) → On wide high x y → C
 Holds (distances rocks x y four) = Distances (ClosedBy rocks) x y four
 Holds (assured rocks hx hy x y) = Assured wide high (ClosedBy rocks) hx hy x y
 Holds (not-assured rocks hx hy x y) = ¬ Assured wide high (ClosedBy rocks) hx hy x y
+Holds (hop rocks hx hy x y answer) =
+    Assured wide high (ClosedBy rocks) hx hy x y × Answers wide high (ClosedBy rocks) hx hy x y answer
 Holds (refused-9 rocks sx sy dx dy) =
     Open wide high (ClosedBy rocks) sx sy × Open wide high (ClosedBy rocks) dx dy × (¬ HasDrive wide high (ClosedBy rocks) sx sy dx dy)
 Holds (drive rocks sx sy dx dy n) =
@@ -98,6 +107,11 @@ Holds (region rocks sx sy dx dy n) = Count wide high (InRegion wide high (Closed
 Holds (outside rocks sx sy dx dy x₀ x₁ y₀ y₁) =
     (a b : ℕ) → Within x₀ x₁ y₀ y₁ a b → ¬ InRegion wide high (ClosedBy rocks) sx sy dx dy a b
 Holds (driven rocks sx sy dx dy z route z′) = Driven wide high (ClosedBy rocks) sx sy dx dy sx sy z route z′
+
+-- Every row of a list holds.
+pub data EveryRow : List Row → Type 0 where
+  none : EveryRow []
+  one : {r : Row} {rs : List Row} → Holds r → EveryRow rs → EveryRow (r ∷ rs)
 
 abbrev pub place : ℕ → ℕ → Place
 place x y = record { x = x; y = y }
@@ -120,7 +134,8 @@ table =
     ∷ labels (place 1 1 ∷ place 4 1 ∷ []) [] 2 62
     -- 5. "Rocks (0,0), (1,1): (1,0) and (0,1) shut."
     ∷ labels (place 0 0 ∷ place 1 1 ∷ []) (place 1 0 ∷ place 0 1 ∷ []) 1 60
-    -- 6. "Rocks (3,2), (4,3), (5,2), called R: group 3 to 5 by 2 to 3, with (4,2), (3,3), (5,3) shut."
+    -- 6. "Rocks (3,2), (4,3), (5,2), called R: group 3 to 5 by 2 to 3, with (4,2), (3,3), (5,3)
+    -- shut."
     ∷ labels R (place 4 2 ∷ place 3 3 ∷ place 5 3 ∷ []) 1 58
     ∷ group R 3 5 2 3
     -- 7. "R: (0,2) has 3, 255, 255, 255; (4,0) has 255, 255, 255, 2; (4,2) has four zeros."
@@ -137,6 +152,7 @@ table =
     -- 10. "R: region (0,0) to (7,3) has 20 crossings; x 0 to 2 with y 2 or 3 is outside."
     ∷ region R 0 0 7 3 20
     ∷ outside R 0 0 7 3 0 2 2 3
-    -- 11. "No rocks, state 0, (0,0) to (2,1): numbers 0, 1, 2, 10; state after it 47502932 hexadecimal."
+    -- 11. "No rocks, state 0, (0,0) to (2,1): numbers 0, 1, 2, 10; state after it 47502932
+    -- hexadecimal."
     ∷ driven [] 0 0 2 1 0 (0 ∷ 1 ∷ 2 ∷ 10 ∷ []) 0x47502932
     ∷ []

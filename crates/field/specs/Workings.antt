@@ -1,4 +1,5 @@
--- Workings: functions on sheets that compute what document 01 defines, each with the theorem, both ways, that it agrees with the meaning.
+-- Workings: functions on sheets that compute what document 01 defines, each with the theorem, both
+-- ways, that it agrees with the meaning.
 pub mod Tests
 pub mod Sheet
 pub mod Marks
@@ -25,3 +26,4 @@ pub mod ChoosingLaws
 pub mod SameLaws
 pub mod RowTests
 pub mod RowLaws
+pub mod TableLaws

@@ -1,5 +1,5 @@
-// The field: what document 01 defines, as meanings that a reader must believe and workings that compute. The definitions stand in specs/;
-// here stands only what code and definitions share.
+// The field: what document 01 defines, as meanings that a reader must believe and workings that
+// compute. The definitions stand in specs/; here stands only what code and definitions share.
 pub mod refusals; // refusals.rt: the refusal numbers
 
 // "Width and height: 1 to 64 each."
@@ -10,6 +10,9 @@ pub const MOST_CROSSINGS: usize = 4096;
 
 // "At most 4,096 are in use."
 pub const MOST_MARKERS: usize = 4096;
+
+// "... or 255 if there is none."
+pub const NO_DISTANCE: u8 = 255;
 
 // A rock marker: a sixteen-bit id and the crossing on which it stands, laid out for C.
 #[repr(C)]

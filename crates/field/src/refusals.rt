@@ -39,7 +39,8 @@ pub const NOT_ASSURED: u8 = 11;
 // first two bytes are neither P1 nor P4, or there are fewer than two
 pub const BAD_LETTERS: u8 = 12;
 
-// header against the rules or cut short, or a P1 raster byte before the last digit that is neither digit 0, 1 nor blank
+// header against the rules or cut short, or a P1 raster byte before the last digit that is neither
+// digit 0, 1 nor blank
 pub const BAD_HEADER: u8 = 13;
 
 // raster ends early

@@ -1,4 +1,5 @@
--- The header's parts put together: a number after a separator, and the header of two such numbers and the last blank.
+-- The header's parts put together: a number after a separator, and the header of two such numbers
+-- and the last blank.
 use mathlib.Core.Path.{_≡_, sym, ap, subst, _∙_}
 use mathlib.Core.Bool.{false}
 use mathlib.Core.List.{List, [], _∷_}
@@ -23,11 +24,12 @@ use Rattle.mapfile.specs.HeaderWorking.{
 }
 use Rattle.mapfile.specs.HeaderSound.{header-sound}
 use Rattle.mapfile.specs.HeaderComplete.{header-complete}
-use Rattle.header.specs.HeaderParts.{GapRead, NumeralRead}
+use Rattle.header.specs.HeaderParts.{GapRead, NumeralRead, HeadRead}
 use Rattle.header.specs.declared.Gap.{Gap}
 use Rattle.header.specs.declared.Gap.the-variants.{Ends, Missing}
 use Rattle.header.specs.declared.Numeral.{Numeral}
 use Rattle.header.specs.declared.Numeral.the-variants.{Value as NumeralValue, Missing as NumeralMissing}
+use Rattle.header.specs.declared.Head.the-variants.{Sides, Missing as HeadMissing}
 use Rattle.header.specs.Left.{left-cons}
 
 module _ (s : List ℕ) (at : ℕ) where
@@ -99,3 +101,10 @@ no-last l m n u v p q r w h body k =
     let second : value v n ≡ value h (g .2 .0) = sym q ∙ ap nextNumber same ∙ g .2 .1 in
     let again : n ≡ g .2 .0 = cc in
     none-some (sym r ∙ ap lastBlank again ∙ g .2 .2)
+
+-- The answer of the header, by its number.
+pub head-is : {s : List ℕ} {at w h e : ℕ} → e ≤ length s → Header (w ∷ h ∷ []) (drop at s) (drop e s) → HeadRead s at (Sides w h e)
+head-is l k = record { within = λ _. l; header = λ _. k; none = λ z. absurd (omega arith) }
+
+pub head-none : {s : List ℕ} {at : ℕ} → ((w h : ℕ) (body : List ℕ) → ¬ Header (w ∷ h ∷ []) (drop at s) body) → HeadRead s at HeadMissing
+head-none n = record { within = λ z. absurd (omega arith); header = λ z. absurd (omega arith); none = λ _. n }

@@ -1,5 +1,6 @@
--- What the loop over a number's digits keeps true: after each digit, the digits left lead to the same number. So far there are as many digits as
--- bytes passed, and their value is below as high a power of ten.
+-- What the loop over a number's digits keeps true: after each digit, the digits left lead to the
+-- same number. So far there are as many digits as bytes passed, and their value is below as high a
+-- power of ten.
 use mathlib.Core.Path.{_≡_, sym, ap, _∙_}
 use mathlib.Core.List.{List}
 use Prim.Native.Nat.{ℕ, zero, suc, _+_, _*_, _-_, _^_, _<_, _≤_}

@@ -1,4 +1,5 @@
--- What the two skippers keep true: after each byte that is passed, what is left leads to the same end of the separator.
+-- What the two skippers keep true: after each byte that is passed, what is left leads to the same
+-- end of the separator.
 use mathlib.Core.Path.{_≡_, refl, sym, ap, _∙_}
 use mathlib.Core.Bool.{Bool, true, false}
 use mathlib.Core.List.{List}

@@ -7,6 +7,7 @@ use Prim.Native.Nat.{ℕ, zero, suc, _≤_}
 use mir.Syntax.{w64}
 use mir.Val.{Fits}
 use lib.ListN.{length, drop}
+use Rattle.field.specs.Refusals.{success, bad-header}
 use Rattle.mapfile.specs.Header.{Header}
 use Rattle.mapfile.specs.HeaderWorking.{Value, value, no-value}
 use Rattle.header.specs.declared.Gap.{Gap}
@@ -34,7 +35,8 @@ gapAt (suc e) = Ends (suc e)
 abbrev pub Past : ℕ → Bool → Type 0
 Past at seen = seen ≡ true → 1 ≤ at
 
--- Where a skipper may begin. That its length is a machine's number, a slice behind a reference does not say of itself.
+-- Where a skipper may begin. That its length is a machine's number, a slice behind a reference does
+-- not say of itself.
 pub record MaySkip (src : List ℕ) (at : ℕ) (seen : Bool) : Type 0 where
   pub counted : Fits w64 (length src)
   pub within : at ≤ length src
@@ -49,7 +51,26 @@ abbrev pub numeralEnd : ℕ → ℕ → ℕ → Numeral
 numeralEnd zero v e = NumeralMissing
 numeralEnd (suc n) v e = NumeralValue v e
 
--- A header and where the raster begins, by the grammar.
-abbrev pub HeadRead : List ℕ → ℕ → Head → Type 0
-HeadRead src at (HeadSides w h e) = (e ≤ length src) × Header (w ∷ h ∷ []) (drop at src) (drop e src)
-HeadRead src at HeadMissing = (w h : ℕ) (body : List ℕ) → ¬ Header (w ∷ h ∷ []) (drop at src) body
+-- Document 01's number for each case, 13 where there is no header, and its values: width, height
+-- and where the raster begins.
+abbrev pub headNumber : Head → ℕ
+headNumber (HeadSides w h e) = success
+headNumber HeadMissing = bad-header
+
+abbrev pub headWidth : Head → ℕ
+headWidth (HeadSides w h e) = w
+headWidth HeadMissing = 0
+
+abbrev pub headHeight : Head → ℕ
+headHeight (HeadSides w h e) = h
+headHeight HeadMissing = 0
+
+abbrev pub headEnd : Head → ℕ
+headEnd (HeadSides w h e) = e
+headEnd HeadMissing = 0
+
+-- A header and where the raster begins, by the grammar; or that there is none.
+pub record HeadRead (src : List ℕ) (at : ℕ) (r : Head) : Type 0 where
+  pub within : headNumber r ≡ success → headEnd r ≤ length src
+  pub header : headNumber r ≡ success → Header (headWidth r ∷ headHeight r ∷ []) (drop at src) (drop (headEnd r) src)
+  pub none : headNumber r ≡ bad-header → (w h : ℕ) (body : List ℕ) → ¬ Header (w ∷ h ∷ []) (drop at src) body

@@ -1,5 +1,5 @@
-// The header of a map file: "Then a separator, the width, a separator, the height, exactly one blank byte". Each part says where it ends, so that
-// the next begins there.
+// The header of a map file: "Then a separator, the width, a separator, the height, exactly one
+// blank byte". Each part says where it ends, so that the next begins there.
 ghost use mathlib.Core.Path.{_≡_};
 ghost use mathlib.Core.Bool.{true, false};
 ghost use mathlib.Core.Logic.{_↔_};
@@ -62,7 +62,8 @@ fn is_line_end(b: u8) -> bool
     false
 }
 
-// The end of a separator that ends at this place: it is one if a blank was seen in it. 0 says that there is none.
+// The end of a separator that ends at this place: it is one if a blank was seen in it. 0 says that
+// there is none.
 fn gap_end(at: usize, seen: bool) -> usize
     requires { ⌜ Past at seen ⌝ }
     ensures { λ r. ⌜ gapAt r ≡ gapEnd at seen ⌝ }
@@ -73,12 +74,14 @@ fn gap_end(at: usize, seen: bool) -> usize
     0
 }
 
-// Skips blanks, and at a # hands on to the comment skipper: so over all items of a separator. `seen`: a blank was among the items before. The answer
-// is the separator's end, or 0 if there is none: a blank stands before the end, so that no separator ends at 0.
+// Skips blanks, and at a # hands on to the comment skipper: so over all items of a separator.
+// `seen`: a blank was among the items before. The answer is the separator's end, or 0 if there is
+// none: a blank stands before the end, so that no separator ends at 0.
 //
-// The skippers call each other as the last thing that they do, and the compiler makes jumps of these calls, so that many comments take no more stack
-// than one. It can do so while all that a call hands over goes in registers: hence the answer is a number and no `Gap`, and the bytes are lent by a
-// reference to the slice.
+// The skippers call each other as the last thing that they do, and the compiler makes jumps of
+// these calls, so that many comments take no more stack than one. It can do so while all that a
+// call hands over goes in registers: hence the answer is a number and no `Gap`, and the bytes are
+// lent by a reference to the slice.
 fn skip_blanks(src: &&[u8], at: usize, seen: bool) -> usize
     requires { ⌜ MaySkip (now (now src)) at seen ⌝ }
     ensures { λ r. ⌜ GapRead (now (now (src .entry))) (afterItems (drop at (now (now (src .entry)))) seen) (gapAt r) ⌝ }
@@ -99,7 +102,8 @@ fn skip_blanks(src: &&[u8], at: usize, seen: bool) -> usize
     gap_end(i, any)
 }
 
-// Skips a comment through the CR or LF that ends it, and hands on to the blank skipper. A comment that never ends makes no separator.
+// Skips a comment through the CR or LF that ends it, and hands on to the blank skipper. A comment
+// that never ends makes no separator.
 fn skip_comment(src: &&[u8], at: usize, seen: bool) -> usize
     requires { ⌜ MaySkip (now (now src)) at seen ⌝ }
     ensures { λ r. ⌜ GapRead (now (now (src .entry))) (afterComment (drop at (now (now (src .entry)))) seen) (gapAt r) ⌝ }
@@ -115,7 +119,8 @@ fn skip_comment(src: &&[u8], at: usize, seen: bool) -> usize
     0
 }
 
-// Where the separator ends that begins at this place: "one or more items, each a blank or a comment, at least one of them a blank".
+// Where the separator ends that begins at this place: "one or more items, each a blank or a
+// comment, at least one of them a blank".
 fn separator(src: &[u8], at: usize) -> Gap
     requires { ⌜ at ≤ length (now src) ⌝ }
     ensures { λ r. ⌜ GapRead (now (src .entry)) (afterItems (drop at (now (src .entry))) false) r ⌝ }
@@ -150,7 +155,8 @@ fn numeral_end(digits: usize, v: usize, at: usize) -> Numeral
     Numeral::Value(v, at)
 }
 
-// "A number is 1 to 9 decimal digits, leading zeros allowed." It ends before the first byte that is no digit.
+// "A number is 1 to 9 decimal digits, leading zeros allowed." It ends before the first byte that is
+// no digit.
 fn number(src: &[u8], at: usize) -> Numeral
     requires { ⌜ at ≤ length (now src) ⌝ }
     ensures { λ r. ⌜ NumeralRead (now (src .entry)) (numberFrom (drop at (now (src .entry))) 0 0) r ⌝ }

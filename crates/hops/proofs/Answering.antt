@@ -1,5 +1,6 @@
--- The answer of the hop call. Its two tests tell the two hops that can be permitted, and where home is assured and the place is not home one of
--- them is, since no open crossing has two closed neighbours.
+-- The answer of the hop call. Its two tests tell the two hops that can be permitted, and where home
+-- is assured and the place is not home one of them is, since no open crossing has two closed
+-- neighbours.
 use mathlib.Core.Path.{_≡_, sym, ap₂, _∙_}
 use mathlib.Core.Bool.{Bool, true}
 use mathlib.Core.List.{List}

@@ -1,4 +1,5 @@
--- The tests of the hop call, as the code makes them: a hop homeward stays on the map, and there a crossing is open where it has no mark.
+-- The tests of the hop call, as the code makes them: a hop homeward stays on the map, and there a
+-- crossing is open where it has no mark.
 use mathlib.Core.Path.{_≡_, sym, _∙_}
 use mathlib.Core.Bool.{false}
 use mathlib.Core.List.{List}

@@ -9,13 +9,15 @@ use Rattle.sheets.specs.Promise.{Fits}
 use Rattle.hops.specs.declared.Answer.{Answer}
 use Rattle.hops.specs.declared.Answer.the-variants.{There, One, Two}
 
--- Document 01's answer for each case of the enum: "there", one crossing, or two, the east-west one first.
+-- Document 01's answer for each case of the enum: "there", one crossing, or two, the east-west one
+-- first.
 abbrev pub answered : Answer → HopAnswer
 answered There = there
 answered (One a b) = one a b
 answered (Two a b c d) = two a b c d
 
--- What a hop asks: no open crossing of the sheet has two or more closed neighbours, and home is assured for the place.
+-- What a hop asks: no open crossing of the sheet has two or more closed neighbours, and home is
+-- assured for the place.
 pub record MayHop (w h : ℕ) (s : List ℕ) (hx hy x y : ℕ) : Type 0 where
   pub fits : Fits w h s
   pub stable : Stable w h (Marked s w h)

@@ -1,5 +1,6 @@
--- What the hop's answer tells of the closed crossings that the sheet draws: it names exactly the permitted hops, and is "there" exactly at home.
--- A hop is permitted over the sheet's marks where it is permitted over C, for the two agree on which crossings are open.
+-- What the hop's answer tells of the closed crossings that the sheet draws: it names exactly the
+-- permitted hops, and is "there" exactly at home. A hop is permitted over the sheet's marks where
+-- it is permitted over C, for the two agree on which crossings are open.
 use mathlib.Core.Path.{_≡_, sym, _∙_, subst₂}
 use mathlib.Core.List.{List}
 use mathlib.Core.Logic.{_⊎_, inl, inr, _↔_}

@@ -1,3 +1,2 @@
--- Refusals as rules, and the rules that are judged on numbers and yes-or-no answers alone.
-pub mod Rule
+-- The rules that are judged on numbers and yes-or-no answers alone.
 pub mod Judging

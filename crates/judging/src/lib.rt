@@ -1,7 +1,7 @@
-// Refusals that are told from numbers and yes-or-no answers alone, the lowest first. Nothing here touches what is lent.
+// Refusals that are told from numbers and yes-or-no answers alone, the lowest first. Nothing here
+// touches what is lent.
 use field::MOST_MARKERS;
 use field::Marker;
-use field::SIDE;
 use field::refusals::BAD_LIST;
 use field::refusals::BAD_PLACE;
 use field::refusals::BAD_SHEET;
@@ -14,26 +14,10 @@ ghost use mathlib.Core.Path.{_≡_};
 ghost use mathlib.Core.Bool.{true};
 ghost use mathlib.Core.Logic.{_↔_};
 ghost use Prim.Native.Nat.{_<_, _^_};
-ghost use Rattle.field.specs.Map.{Sides, On};
+ghost use Rattle.field.specs.Map.{On};
 ghost use Rattle.markers.specs.Promise.{marker};
-ghost use Rattle.judging.specs.Rule.{Gives};
+ghost use Rattle.calls.specs.Rule.{Gives};
 ghost use Rattle.judging.specs.Judging.{Fits, FourFit, asking-judged, list-judged, enter-judged, clear-judged, FoundAt};
-
-// "Width and height: 1 to 64 each."
-pub fn sized(w: usize, h: usize) -> bool
-    ensures { λ r. ⌜ ((r ≡ true) ↔ Sides w h) ⌝ }
-{
-    if w == 0 {
-        return false;
-    }
-    if h == 0 {
-        return false;
-    }
-    if SIDE < w {
-        return false;
-    }
-    h <= SIDE
-}
 
 // Whether (x, y) is a crossing of the map.
 fn on_map(w: usize, h: usize, x: usize, y: usize) -> bool
@@ -45,11 +29,12 @@ fn on_map(w: usize, h: usize, x: usize, y: usize) -> bool
     y < h
 }
 
-// Whether a sheet of n bytes is of the map's size. The product is made only within the limit, so that it does not overflow.
+// Whether a sheet of n bytes is of the map's size. The product is made only within the limit, so
+// that it does not overflow.
 pub fn fits(w: usize, h: usize, n: usize) -> bool
     ensures { λ r. ⌜ ((r ≡ true) ↔ Fits w h n) ⌝ }
 {
-    if !sized(w, h) {
+    if !sheets::sized(w, h) {
         return false;
     }
     n == h * w
@@ -71,8 +56,9 @@ pub fn four_fit(w: usize, h: usize, n: usize, m: usize, k: usize, l: usize) -> b
     fits(w, h, l)
 }
 
-// The lowest of refusals 1 to 4, or 0: n is the label sheet's length, `others` tells whether every other sheet is of the map's size, `well` whether
-// the list is well formed; (x, y) and (a, b) are the places asked.
+// The lowest of refusals 1 to 4, or 0: n is the label sheet's length, `others` tells whether every
+// other sheet is of the map's size, `well` whether the list is well formed; (x, y) and (a, b) are
+// the places asked.
 pub fn lowest(
     w: usize,
     h: usize,
@@ -86,7 +72,7 @@ pub fn lowest(
 ) -> u8
     ensures { λ r. ⌜ Gives (asking-judged w h n others well x y a b) r ⌝ }
 {
-    if !sized(w, h) {
+    if !sheets::sized(w, h) {
         return BAD_SIZE;
     }
     if n != h * w {
@@ -111,7 +97,7 @@ pub fn lowest(
 pub fn list_refusal(w: usize, h: usize, formed: bool) -> u8
     ensures { λ r. ⌜ Gives (list-judged w h formed) r ⌝ }
 {
-    if !sized(w, h) {
+    if !sheets::sized(w, h) {
         return BAD_SIZE;
     }
     if !formed {

@@ -1,5 +1,6 @@
--- What settling the sheet promises: the notes are taken off, and the rocks, the shut crossings and the corners are counted. A corner is a closed
--- crossing with neither a closed west nor a closed south neighbour.
+-- What settling the sheet promises: the notes are taken off, and the rocks, the shut crossings and
+-- the corners are counted. A corner is a closed crossing with neither a closed west nor a closed
+-- south neighbour.
 use mathlib.Core.Path.{_≡_}
 use mathlib.Core.List.{List}
 use Prim.Native.Nat.{ℕ, zero, suc, _+_, _*_, _-_, _^_, _<_, _≤_}

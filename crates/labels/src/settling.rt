@@ -1,5 +1,6 @@
-// Settling the sheet, once the closed crossings are found: the notes are taken off, and rocks, shut crossings and groups are counted. A group is
-// counted at its corner, the one closed crossing of it with neither a closed west nor a closed south neighbour.
+// Settling the sheet, once the closed crossings are found: the notes are taken off, and rocks, shut
+// crossings and groups are counted. A group is counted at its corner, the one closed crossing of it
+// with neither a closed west nor a closed south neighbour.
 use super::Labelled;
 ghost use mathlib.Core.Path.{_≡_};
 ghost use Prim.Native.Nat.{_+_, _-_};
@@ -36,7 +37,8 @@ fn wide(b: u8) -> usize
     b as usize
 }
 
-// 1 where the west neighbour of (x, y) is closed, and else 0; and the same of its south neighbour. Both are settled before (x, y) is.
+// 1 where the west neighbour of (x, y) is closed, and else 0; and the same of its south neighbour.
+// Both are settled before (x, y) is.
 fn closed_west(s: &[u8], w: usize, x: usize, y: usize) -> usize
     requires { ⌜ Settling w x y (now s) ⌝ }
     ensures { λ r. ⌜ r ≡ westBit (now (s .entry)) w x y ⌝ }
@@ -77,9 +79,10 @@ fn corner(s: &[u8], w: usize, x: usize, y: usize) -> usize
     1
 }
 
-// Takes the note at (x, y) off, and adds what the crossing counts for to the sum so far. An open crossing hands the sum back as it came: so it costs
-// a look at its byte, and no sums of zeros. A closed one is 1 for a rock and 2 where it is shut: these are counted by a difference, since no processor
-// can foresee which of the two comes next.
+// Takes the note at (x, y) off, and adds what the crossing counts for to the sum so far. An open
+// crossing hands the sum back as it came: so it costs a look at its byte, and no sums of zeros. A
+// closed one is 1 for a rock and 2 where it is shut: these are counted by a difference, since no
+// processor can foresee which of the two comes next.
 fn settle(s: &mut [u8], w: usize, x: usize, y: usize, sum: Labelled) -> Labelled
     requires { ⌜ Summing w x y (now s) sum ⌝ }
     ensures { λ r. ⌜ Settled w x y (now (s .entry)) (now (s .exit)) sum r ⌝ }

@@ -1,29 +1,28 @@
--- The two parts of an asking joined. The first part has judged and stamped; the rocks stamped on the sheet are the list's, so whatever the second part
--- tells of the sheet's rocks holds of the list's.
+-- The two parts of an asking joined. The first part has judged and stamped; the rocks stamped on
+-- the sheet are the list's, so whatever the second part tells of the sheet's rocks holds of the
+-- list's, and its rows come after those that the first part judged.
 use mathlib.Core.Path.{_≡_, refl, sym, subst, _∙_}
 use mathlib.Core.Bool.{Bool, true, false}
 use mathlib.Core.List.{List, [], _∷_, _++_}
 use mathlib.Core.Logic.{_↔_, _⊎_, inl, inr, ⊎-elim}
-use Prim.Native.Nat.{ℕ, _*_, _<_}
+use Prim.Native.Nat.{ℕ, _*_, _<_, _≤_}
 use native.Mathlib.Omega.{arith}
 use native.Mathlib.Decide.{ℕ-discrete}
 use lib.Dec.{lit<}
 use lib.ListN.{length}
-use Rattle.field.specs.declared.Marker.{Marker}
-use Rattle.field.specs.Map.{Sides, On}
-use Rattle.field.specs.Refusals.{bad-list}
-use Rattle.field.specs.Labels.{RockOn, Closed, rock, Open, Label, is-open, is-rock, is-shut, LabelSheet}
-use Rattle.field.specs.Workings.Sheet.{Marked}
+use Rattle.field.specs.Map.{Sides}
+use Rattle.field.specs.Refusals.{bad-list, no-slot}
+use Rattle.field.specs.Labels.{RockOn}
 use Rattle.field.specs.Workings.SameLaws.{Alike, closed-same, label-sheet-same}
-use Rattle.labels.specs.Promise.{Stamped}
-use Rattle.answers.specs.Promise.{AnEndClosed, BothOpen}
+use Rattle.labels.specs.Promise.{Stamped, Stones}
 use Rattle.calls.specs.Rules
-use Rattle.calls.specs.Rules.{Rule, Gives, Misfit, RocksOf, ClosedBy}
-use Rattle.calls.specs.RuleLaws.{None, Rises, gives-none, sides-hold, on-holds}
+use Rattle.calls.specs.Rules.{LentMap, Sized, OnIt, RocksOf, ClosedBy, Rule, Gives, Misfit}
+use Rattle.calls.specs.RuleLaws.{None, Rises, gives-none, gives-above, Reworded, gives-reworded, same, gives-early, gives-later, sides-hold, on-holds}
+use Rattle.calls.specs.Parts.{before}
+use Rattle.calls.specs.Answers.{Early, LabelsAfter}
+use Rattle.askings.specs.Promise.{ClosedOn, MayLabel}
 use Rattle.judging.specs.Judging.{Fits, FourFit}
 use Rattle.layer.specs.Prepared.{Prepared, asking-found}
-use Rattle.calls.specs.Calls.{Early, LabelsAfter}
-use Rattle.layer.proofs.Tables.{Reworded, gives-reworded, same, gives-early, gives-later}
 
 -- `others` tells of the other sheets, on a map within the limit.
 abbrev pub Tells : ℕ → ℕ → Bool → List (List ℕ) → Type 0
@@ -48,7 +47,7 @@ not-both w h [] f m = m
 not-both w h (s ∷ ss) f (inl n) = n (f .0)
 not-both w h (s ∷ ss) f (inr m) = not-both w h ss (f .1) m
 
-pub yes-is-no : (true ≡ false) → ⊥
+yes-is-no : (true ≡ false) → ⊥
 yes-is-no e = let z : _≡_ {A = ℕ} 0 1 = cc in omega arith
 
 all-tell : (w h : ℕ) (others : Bool) (ss : List (List ℕ)) → ((others ≡ true) ↔ (Sides w h × AllFit w h ss)) → Tells w h others ss
@@ -70,22 +69,23 @@ four-tell {w} {h} {others} s t u v e =
       λ f. e .1 (record { sides = f .0; first = f .1 .0; second = f .1 .1 .0; third = f .1 .1 .1 .0; fourth = f .1 .1 .1 .1 .0 }),
     )
 
--- What an asking gives, and what it leaves on the label sheet.
-pub record Asked (list : List Marker) (count w h : ℕ) (sheets : List (List ℕ)) (own : List Rule) (labels labels′ : List ℕ) (m : ℕ) : Type 0 where
-  pub given : Gives (Rules.asking-table list count w h sheets own) m
-  pub labels-after : LabelsAfter list count w h m labels labels′
+-- What an asking gives, and what it leaves on the label sheet. Where the sheet is labelled, the
+-- first part gave 0: n is its number.
+pub record Answered (m : LentMap) (sheets : List (List ℕ)) (own : List Rule) (n : ℕ) (labels labels′ : List ℕ) (r : ℕ) : Type 0 where
+  pub given : Gives (Rules.asking-table m sheets own) r
+  pub labels-after : LabelsAfter (RocksOf m) (m .width) (m .height) r labels labels′
+  pub passed : ¬ Early r → n ≡ 0
 
-unless-open : {R : ℕ → ℕ → Type 0} {w h x y v : ℕ} → Label R w h x y v → ¬ Open w h (Closed R w h) x y → Closed R w h x y
-unless-open (is-open e o) f = absurd (f o)
-unless-open (is-rock e r) f = rock (r .on) (r .stone)
-unless-open (is-shut e t) f = t .closed
+-- 0 is no refusal.
+pub none-early : {r : ℕ} → r ≡ 0 → ¬ Early r
+none-early z e = omega (arith, e .0)
 
-module _ {list : List Marker} {count w h x y a b : ℕ} {others : Bool} {labels s : List ℕ} {n : ℕ} (p : Prepared list count w h x y a b others labels s n) where
+module _ {m : LentMap} {x y a b : ℕ} {others : Bool} {labels s : List ℕ} {n : ℕ} (p : Prepared m x y a b others labels s n) where
   -- The first part refuses by 1 to 4.
-  pub refusal-early : ¬ (n ≡ 0) → Early n
+  refusal-early : ¬ (n ≡ 0) → Early n
   refusal-early f = go (p .given)
     where
-      go : Gives (asking-found list count w h x y a b others labels) n → Early n
+      go : Gives (asking-found m x y a b others labels) n → Early n
       go (inl e) = (omega (arith, e .1), omega (arith, e .1))
       go (inr (_, inl e)) = (omega (arith, e .1), omega (arith, e .1))
       go (inr (_, inr (_, inl e))) = (omega (arith, e .1), omega (arith, e .1))
@@ -93,47 +93,44 @@ module _ {list : List Marker} {count w h x y a b : ℕ} {others : Bool} {labels 
       go (inr (_, inr (_, inr (_, inr e)))) = absurd (f (e .1))
 
   module _ (z : n ≡ 0) where
-    free : None (asking-found list count w h x y a b others labels)
-    free = gives-none (asking-found list count w h x y a b others labels) 0 n (omega arith) (p .given) z
+    free : None (asking-found m x y a b others labels)
+    free = gives-none (asking-found m x y a b others labels) 0 n (omega arith) (p .given) z
 
-    pub sides-good : Sides w h
-    sides-good = sides-hold (free .0)
+    pub first-good : OnIt m x y
+    first-good = on-holds (λ f. free .1 .1 .1 .0 (inl f))
 
-    pub places-good : On w h x y × On w h a b
-    places-good = (on-holds (λ f. free .1 .1 .1 .0 (inl f)), on-holds (λ f. free .1 .1 .1 .0 (inr f)))
+    pub second-good : OnIt m a b
+    second-good = on-holds (λ f. free .1 .1 .1 .0 (inr f))
 
     pub others-good : ¬ (others ≡ false)
     others-good e = free .1 .0 (inr e)
 
-    pub sheet-stamped : Stamped w h s
-    sheet-stamped = record { sides = sides-good; size = p .stamped z .size; ones = p .stamped z .ones }
+    sheet-stamped : Stamped (m .width) (m .height) s
+    sheet-stamped = record { sides = sides-hold (free .0); size = p .stamped z .size; ones = p .stamped z .ones }
 
     -- The rocks stamped are the list's.
-    pub stones-alike : Alike (RockOn (Marked s w h) w h) (RockOn (RocksOf list count) w h)
+    pub stones-alike : Alike (RockOn (Stones (m .width) (m .height) s) (m .width) (m .height)) (RockOn (RocksOf m) (m .width) (m .height))
     stones-alike u v =
         (λ r. p .stamped z .rocks .sound u v (r .stone), λ r. record { on = r .on; stone = p .stamped z .rocks .complete u v r })
 
-    pub closed-alike : Alike (Closed (Marked s w h) w h) (ClosedBy list count w h)
-    closed-alike = closed-same w h stones-alike
+    pub closed-alike : Alike (ClosedOn (m .width) (m .height) s) (ClosedBy m)
+    closed-alike = closed-same (m .width) (m .height) stones-alike
 
-    pub labels-carried : {t : List ℕ} → LabelSheet (Marked s w h) w h t → LabelSheet (RocksOf list count) w h t
-    labels-carried = label-sheet-same w h stones-alike
+  -- So the second part may label.
+  pub may-label : MayLabel n (m .width) (m .height) s
+  may-label = record { early = small (ℕ-discrete n 0); stamped = sheet-stamped }
+    where
+      small : Dec (n ≡ 0) → n ≤ no-slot
+      small (yes z) = omega arith
+      small (no f) = refusal-early f .1
 
-    -- An end that is not open is closed, as the labels tell; and an open one is not.
-    pub end-closed-by : {t : List ℕ} → LabelSheet (Marked s w h) w h t → AnEndClosed w h (Closed (Marked s w h) w h) x y a b → ClosedBy list count w h x y ⊎ ClosedBy list count w h a b
-    end-closed-by l (inl f) = inl (closed-alike x y .0 (unless-open (l .label x y (places-good .0)) f))
-    end-closed-by l (inr f) = inr (closed-alike a b .0 (unless-open (l .label a b (places-good .1)) f))
-
-    pub ends-open-by : BothOpen w h (Closed (Marked s w h) w h) x y a b → ¬ (ClosedBy list count w h x y ⊎ ClosedBy list count w h a b)
-    ends-open-by o (inl c) = o .0 .free (closed-alike x y .1 c)
-    ends-open-by o (inr c) = o .1 .free (closed-alike a b .1 c)
-
-  -- The rows of a call: the first three and `own`, which say what the first part judged, and after them the rows `later`.
-  module _ (sheets : List (List ℕ)) (own : List Rule) (rises : Rises bad-list own) (tells : Tells w h others sheets)
-      (places : Sides w h → Reworded (Rules.places-rule list count w h x y a b ∷ []) own) where
-    first-gives : Gives (Rules.asking-table list count w h (labels ∷ sheets) own) n
+  -- The rows of a call: the first three and `own`, which say what the first part judged, and after
+  -- them the rows `later`.
+  module _ (sheets : List (List ℕ)) (own : List Rule) (rises : Rises bad-list own) (tells : Tells (m .width) (m .height) others sheets)
+      (places : Sized m → Reworded (Rules.places-rule m x y a b ∷ []) own) where
+    first-gives : Gives (Rules.asking-table m (labels ∷ sheets) own) n
     first-gives =
-        gives-reworded (asking-found list count w h x y a b others labels) (Rules.asking-table list count w h (labels ∷ sheets) own) n (
+        gives-reworded (asking-found m x y a b others labels) (Rules.asking-table m (labels ∷ sheets) own) n (
           refl,
           same,
           λ f. let sides = sides-hold f in
@@ -141,30 +138,40 @@ module _ {list : List Marker} {count w h x y a b : ℕ} {others : Bool} {labels 
         )
         (p .given)
 
-    -- What the call gives and leaves on the label sheet: at a refusal of the first part, and at an answer of the second.
-    pub refused-before : (later : List Rule) → ¬ (n ≡ 0) → {m : ℕ} → m ≡ n → {t : List ℕ} → t ≡ s → Asked list count w h (labels ∷ sheets) (own ++ later) labels t m
-    refused-before later f e k =
-        record {
-          given = subst (Gives (Rules.asking-table list count w h (labels ∷ sheets) (own ++ later))) (sym e)
-              (gives-early (Rules.asking-table list count w h (labels ∷ sheets) own) later n first-gives f);
-          labels-after = record { kept = λ _. k ∙ p .refused f; labelled = λ g. absurd (g (subst Early (sym e) (refusal-early f))) };
-        }
+    -- What the second part gives by its rows, over the stones, and leaves on the label sheet, is
+    -- what the call gives by `later` and leaves.
+    pub joined : (rows later : List Rule) → Rises no-slot rows → (n ≡ 0 → Reworded rows later) → {r : ℕ} → Gives (before n ∷ rows) r → {t : List ℕ}
+        → LabelsAfter (Stones (m .width) (m .height) s) (m .width) (m .height) r s t → Answered m (labels ∷ sheets) (own ++ later) n labels t r
+    joined rows later up reworded {r} g {t} l = go (ℕ-discrete n 0) g
+      where
+        late : (r ≡ 0) ⊎ (no-slot < r) → ¬ Early r
+        late (inl e) k = omega (arith, k .0)
+        late (inr e) k = omega (arith, k .1)
 
-    pub answered : (later : List Rule) → n ≡ 0 → {m : ℕ} → Gives later m → ¬ Early m → {t : List ℕ} → LabelSheet (Marked s w h) w h t
-        → Asked list count w h (labels ∷ sheets) (own ++ later) labels t m
-    answered later z {m} g f l =
-        record {
-          given = gives-later (Rules.asking-table list count w h (labels ∷ sheets) own) later m
-              (gives-none (Rules.asking-table list count w h (labels ∷ sheets) own) 0 n (lit< tt, (lit< tt, (lit< tt, rises))) first-gives z) g;
-          labels-after = record { kept = λ e. absurd (f e); labelled = λ _. labels-carried z l };
-        }
+        go : Dec (n ≡ 0) → Gives (before n ∷ rows) r → Answered m (labels ∷ sheets) (own ++ later) n labels t r
+        go (no f) (inr k) = absurd (k .0 f)
+        go (no f) (inl k) =
+            let early : Early r = subst Early (sym (k .1)) (refusal-early f) in
+            record {
+              given = subst (Gives (Rules.asking-table m (labels ∷ sheets) (own ++ later))) (sym (k .1))
+                  (gives-early (Rules.asking-table m (labels ∷ sheets) own) later n first-gives f);
+              labels-after = record { kept = λ e. l .kept e ∙ p .refused f; labelled = λ e. absurd (e early) };
+              passed = λ e. absurd (e early);
+            }
+        go (yes z) (inl k) = absurd (k .0 z)
+        go (yes z) (inr k) =
+            let none = late (gives-above rows no-slot r up (k .1)) in
+            record {
+              given = gives-later (Rules.asking-table m (labels ∷ sheets) own) later r
+                  (gives-none (Rules.asking-table m (labels ∷ sheets) own) 0 n (lit< tt, (lit< tt, (lit< tt, rises))) first-gives z)
+                  (gives-reworded rows later r (reworded z) (k .1));
+              labels-after = record { kept = λ e. absurd (none e); labelled = λ e. label-sheet-same (m .width) (m .height) (stones-alike z) (l .labelled e) };
+              passed = λ _. z;
+            }
 
   -- The same of a call that asks for two places, whose row stands as it is.
-  module _ (sheets : List (List ℕ)) (tells : Tells w h others sheets) (later : List Rule) where
-    pub refused-two : ¬ (n ≡ 0) → {m : ℕ} → m ≡ n → {t : List ℕ} → t ≡ s
-        → Asked list count w h (labels ∷ sheets) (Rules.places-rule list count w h x y a b ∷ later) labels t m
-    refused-two = refused-before sheets (Rules.places-rule list count w h x y a b ∷ []) (lit< tt, tt) tells (λ _. (refl, same, λ _. tt)) later
-
-    pub answered-two : n ≡ 0 → {m : ℕ} → Gives later m → ¬ Early m → {t : List ℕ} → LabelSheet (Marked s w h) w h t
-        → Asked list count w h (labels ∷ sheets) (Rules.places-rule list count w h x y a b ∷ later) labels t m
-    answered-two = answered sheets (Rules.places-rule list count w h x y a b ∷ []) (lit< tt, tt) tells (λ _. (refl, same, λ _. tt)) later
+  pub joined-two : (sheets : List (List ℕ)) → Tells (m .width) (m .height) others sheets → (rows later : List Rule) → Rises no-slot rows
+      → (n ≡ 0 → Reworded rows later) → {r : ℕ} → Gives (before n ∷ rows) r → {t : List ℕ}
+      → LabelsAfter (Stones (m .width) (m .height) s) (m .width) (m .height) r s t
+      → Answered m (labels ∷ sheets) (Rules.places-rule m x y a b ∷ later) n labels t r
+  joined-two sheets tells = joined sheets (Rules.places-rule m x y a b ∷ []) (lit< tt, tt) tells (λ _. (refl, same, λ _. tt))

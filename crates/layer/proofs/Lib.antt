@@ -6,3 +6,4 @@ mod Joining
 mod LabelAnswers
 mod DriveAnswers
 mod Asking
+mod Walking

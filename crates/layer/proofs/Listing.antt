@@ -1,4 +1,5 @@
--- What the rows of entering and clearing leave where none applies, and what the calls promise of the list.
+-- What the rows of entering and clearing leave where none applies, and what the calls promise of
+-- the list.
 use mathlib.Core.Path.{_≡_, refl, subst}
 use mathlib.Core.List.{List, [], _∷_}
 use mathlib.Core.Logic.{inl}
@@ -15,12 +16,11 @@ use types.Kit.{Given}
 use denote.Laws.{Is}
 use denote.Struct.Laws as LL
 use Rattle.field.specs.declared.Marker.{Marker}
-use Rattle.field.specs.Map.{On}
 use Rattle.markers.specs.List.{InUse}
 use Rattle.markers.specs.Promise.{marker}
 use Rattle.records.specs.Promise.{MayEnter, Enters, MayClear, Clears}
 use Rattle.calls.specs.Rules
-use Rattle.calls.specs.Rules.{Gives}
+use Rattle.calls.specs.Rules.{LentMap, OnIt, Gives}
 use Rattle.calls.specs.RuleLaws.{None, gives-none, holds, sides-hold, on-holds, formed-holds}
 use Rattle.calls.specs.Calls.{EnterCall, ClearCall}
 use Rattle.calls.specs.declared.Counted.{Counted}
@@ -47,15 +47,15 @@ pub counted-typed : {M : Type 1} (𝓤 : URA M) (H : Heap 𝓤) (A : Atoms 𝓤)
     → T (hasTy R′.mir (counted-value n count)) × WT (counted-value n count)
 counted-typed 𝓤 H A W n count is = LL.lawful R.the-type R′.the-laws 𝓤 H A W .typed (counted n count) (counted-value n count ∷ []) is .0
 
-module _ (list : List Marker) (count w h id x y n : ℕ) (g : Gives (Rules.enter-table list count w h id x y) n) where
-  pub enter-refused : ¬ (n ≡ 0) → EnterCall list count w h id x y list (counted n 0)
-  enter-refused f = record { given = g; refused = λ _. (refl, refl); done = λ z. absurd (f z) }
+module _ (m : LentMap) (id x y n : ℕ) (g : Gives (Rules.enter-table m id x y) n) where
+  pub enter-refused : ¬ (n ≡ 0) → EnterCall m id x y (m .list) (counted n 0)
+  enter-refused f = record { given = g; kept = λ _. refl; refused = λ _. refl; done = λ z. absurd (f z) }
 
   module _ (z : n ≡ 0) where
-    free : None (Rules.enter-table list count w h id x y)
-    free = gives-none (Rules.enter-table list count w h id x y) 0 n (lit< tt, (lit< tt, (lit< tt, (lit< tt, (lit< tt, tt))))) g z
+    free : None (Rules.enter-table m id x y)
+    free = gives-none (Rules.enter-table m id x y) 0 n (lit< tt, (lit< tt, (lit< tt, (lit< tt, (lit< tt, tt))))) g z
 
-    on : On w h x y
+    on : OnIt m x y
     on = on-holds (λ f. free .1 .1 .0 (inl f))
 
     -- The new marker's crossing is on the map, so it fits a record.
@@ -63,29 +63,39 @@ module _ (list : List Marker) (count w h id x y n : ℕ) (g : Gives (Rules.enter
     enter-fits =
         (omega (arith, on .in-x, sides-hold (free .0) .most-w, side-is), omega (arith, on .in-y, sides-hold (free .0) .most-h, side-is))
 
-    pub enter-may : MayEnter list count (marker id x y)
+    pub enter-may : MayEnter (m .list) (m .count) (marker id x y)
     enter-may =
         record {
           rising = rising-of (formed-holds (free .1 .0));
           new = free .1 .1 .1 .0;
-          room = holds (decLt count (length list)) (λ f. free .1 .1 .1 .1 .0 (inl (omega arith)));
+          room = holds (decLt (m .count) (length (m .list))) (λ f. free .1 .1 .1 .1 .0 (inl (omega arith)));
         }
 
-    pub enter-done : {after : List Marker} {r : ℕ} → Enters list count (marker id x y) after r → EnterCall list count w h id x y after (counted 0 r)
+    pub enter-done : {after : List Marker} {r : ℕ} → Enters (m .list) (m .count) (marker id x y) after r → EnterCall m id x y after (counted 0 r)
     enter-done e =
-        record { given = subst (Gives (Rules.enter-table list count w h id x y)) z g; refused = λ f. absurd (f refl); done = λ _. (e .list, e .counted) }
+        record {
+          given = subst (Gives (Rules.enter-table m id x y)) z g;
+          kept = λ f. absurd (f refl);
+          refused = λ f. absurd (f refl);
+          done = λ _. e;
+        }
 
-module _ (list : List Marker) (count w h id n : ℕ) (g : Gives (Rules.clear-table list count w h id) n) where
-  pub clear-refused : ¬ (n ≡ 0) → ClearCall list count w h id list (counted n 0)
-  clear-refused f = record { given = g; refused = λ _. (refl, refl); done = λ z. absurd (f z) }
+module _ (m : LentMap) (id n : ℕ) (g : Gives (Rules.clear-table m id) n) where
+  pub clear-refused : ¬ (n ≡ 0) → ClearCall m id (m .list) (counted n 0)
+  clear-refused f = record { given = g; kept = λ _. refl; refused = λ _. refl; done = λ z. absurd (f z) }
 
   module _ (z : n ≡ 0) where
-    clear-free : None (Rules.clear-table list count w h id)
-    clear-free = gives-none (Rules.clear-table list count w h id) 0 n (lit< tt, (lit< tt, (lit< tt, tt))) g z
+    clear-free : None (Rules.clear-table m id)
+    clear-free = gives-none (Rules.clear-table m id) 0 n (lit< tt, (lit< tt, (lit< tt, tt))) g z
 
-    pub clear-may : InUse list count id → MayClear list count id
+    pub clear-may : InUse (m .list) (m .count) id → MayClear (m .list) (m .count) id
     clear-may u = record { rising = rising-of (formed-holds (clear-free .1 .0)); used = u }
 
-    pub clear-done : {after : List Marker} {r : ℕ} → Clears list count id after r → ClearCall list count w h id after (counted 0 r)
+    pub clear-done : {after : List Marker} {r : ℕ} → Clears (m .list) (m .count) id after r → ClearCall m id after (counted 0 r)
     clear-done e =
-        record { given = subst (Gives (Rules.clear-table list count w h id)) z g; refused = λ f. absurd (f refl); done = λ _. (e .list, e .counted) }
+        record {
+          given = subst (Gives (Rules.clear-table m id)) z g;
+          kept = λ f. absurd (f refl);
+          refused = λ f. absurd (f refl);
+          done = λ _. e;
+        }

@@ -1,4 +1,5 @@
--- The markers of a map by its bits in raster order: the k-th marker is that of the first rock past k rocks.
+-- The markers of a map by its bits in raster order: the k-th marker is that of the first rock past
+-- k rocks.
 use mathlib.Core.Path.{_≡_, refl, sym, ap, ap₂, subst, _∙_}
 use mathlib.Core.List.{List, [], _∷_}
 use Prim.Native.Nat.{ℕ, zero, suc, _+_, _*_, _-_, _<_, _≤_, zero-le}

@@ -1,6 +1,6 @@
--- From the parts of reading to the call's promise. Where the first part refuses, the count is 0, and the second part puts nothing; else it puts the
--- markers of the map in the first slots.
-use mathlib.Core.Path.{_≡_, sym, ap, ap₂, subst, _∙_}
+-- From the parts of reading to the call's promise. Where the first part refuses, the count is 0,
+-- and the second part puts nothing; else it puts the markers of the map in the first slots.
+use mathlib.Core.Path.{_≡_, refl, sym, ap, ap₂, _∙_}
 use mathlib.Core.List.{List, [], _∷_, _++_, append-assoc}
 use mathlib.Core.Logic.{_⊎_, inl, inr}
 use Prim.Native.Nat.{ℕ, suc, _+_, _*_, _<_, _≤_}
@@ -10,17 +10,17 @@ use lib.ListN.{length, set, take, drop, length-append, length-drop}
 use lib.Seq.{take-suc, drop-cons, set-at, take-all, length-take-le}
 use Rattle.field.specs.declared.Marker.{Marker}
 use Rattle.field.specs.Map.{side, most-markers}
-use Rattle.field.specs.Refusals.{no-slot}
 use Rattle.field.specs.Labels.{blank}
 use Rattle.field.specs.Limits.{most-crossings-is, crossings-few}
 use Rattle.markers.specs.List.{slot}
-use Rattle.mapfile.specs.File.{markersOf, FileFault, NoSlot}
+use Rattle.mapfile.specs.File.{markersOf, NoSlot}
 use Rattle.mapfile.specs.FileLaws.{map-file-one}
+use Rattle.calls.specs.Answers.{ReadFault}
 use Rattle.calls.specs.Exactly.{fault-number}
 use Rattle.exchange.specs.Promise.{ReadFirst, refused, found}
 use Rattle.layer.specs.Files.{MayPut, putIn}
 use Rattle.calls.specs.Calls.{ReadCall}
-use Rattle.exchange.specs.declared.ReadMap.{ReadMap}
+use Rattle.calls.specs.declared.ReadMap.{ReadMap}
 
 -- Putting changes no length, and one marker more is put by one store.
 pub put-length : (list markers : List Marker) (k : ℕ) → k ≤ length list → k ≤ length markers → length (putIn list k markers) ≡ length list
@@ -55,32 +55,34 @@ may-put {out = out} {r = r} l (found w h count f e) =
 pub read-call : {file : List ℕ} {list list′ : List Marker} {out : List ℕ} {r : ReadMap} → ReadFirst file (length list) out r
     → list′ ≡ putIn list (r .count) (markersOf (r .width) (r .height) (take (r .height * r .width) out)) → ReadCall file list list′ r
 read-call {file} {list} {list′} {out} {r} (refused n f e) s =
-    record {
-      refused = λ z. (
-        subst (λ (k : ℕ). FileFault file k ⊎ (NoSlot file (length list) × (k ≡ no-slot))) (sym number) f,
-        s ∙ ap (λ (k : ℕ). putIn list k (markersOf (r .width) (r .height) (take (r .height * r .width) out))) none,
-        ap (λ (a : ReadMap). a .width) e,
-        ap (λ (a : ReadMap). a .height) e,
-        none,
-      );
-      done = λ z. absurd (some f (sym number ∙ z));
-    }
+    rw e
+    (record {
+      given = λ _. f;
+      kept = λ _. s ∙ ap (λ (k : ℕ). putIn list k (markersOf (r .width) (r .height) (take (r .height * r .width) out))) (ap (λ (a : ReadMap). a .count) e);
+      refused = λ _. refl;
+      done = λ z. absurd (some f z);
+    })
   where
-    number : r .refusal ≡ n
-    number = ap (λ (a : ReadMap). a .refusal) e
-
-    none : r .count ≡ 0
-    none = ap (λ (a : ReadMap). a .count) e
-
-    some : FileFault file n ⊎ (NoSlot file (length list) × (n ≡ no-slot)) → ¬ (n ≡ 0)
+    some : ReadFault file (length list) n → ¬ (n ≡ 0)
     some (inl g) = fault-number g .0
     some (inr g) = omega (arith, g .1)
 read-call {file} {list} {list′} {out} {r} (found w h count f e) s =
     record {
-      refused = λ z. absurd (z (ap (λ (a : ReadMap). a .refusal) e));
-      done = λ z. rw (width, height) (take (h * w) out, f .map, counted, room, slots);
+      given = λ z. absurd (z number);
+      kept = λ z. absurd (z number);
+      refused = λ z. absurd (z number);
+      done = λ _. record {
+        bits = take (h * w) out;
+        map = rw (width, height) (f .map);
+        counted = rw (width, height) counted;
+        room = room;
+        slots = rw (width, height) slots;
+      };
     }
   where
+    number : r .refusal ≡ 0
+    number = ap (λ (a : ReadMap). a .refusal) e
+
     width : r .width ≡ w
     width = ap (λ (a : ReadMap). a .width) e
 

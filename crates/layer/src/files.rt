@@ -1,18 +1,19 @@
 // The two map-file calls: the list written as a map file, and a map file read into the list.
-use super::prepare;
-use exchange::ReadMap;
-use exchange::WroteMap;
+use super::preparing::prepare;
+use calls::ReadMap;
+use calls::WroteMap;
 use field::MOST_CROSSINGS;
 use field::Marker;
 ghost use mathlib.Core.Path.{_≡_};
 ghost use Prim.Native.Nat.{_*_};
 ghost use lib.ListN.{take};
 ghost use Rattle.mapfile.specs.File.{markersOf};
+ghost use Rattle.calls.specs.Rules.{lentMap};
 ghost use Rattle.calls.specs.Calls.{ReadCall, WriteCall};
 ghost use Rattle.layer.specs.Files.{MayPut, putIn};
 
-// Writes the list as a map file, P4. Hands back the number of bytes written, or the refusal: 1, 3, 16 or 17. Bytes past the end stay, and a refusal
-// changes none.
+// Writes the list as a map file, P4. Hands back the number of bytes written, or the refusal: 1, 3,
+// 16 or 17. Bytes past the end stay, and a refusal changes none.
 #[no_mangle]
 pub extern "C" fn bodkin_write(
     list: &[Marker],
@@ -21,7 +22,7 @@ pub extern "C" fn bodkin_write(
     h: usize,
     out: &mut [u8],
 ) -> WroteMap
-    ensures { λ r. ⌜ WriteCall (now (list .entry)) count w h (now (out .entry)) (now (out .exit)) r ⌝ }
+    ensures { λ r. ⌜ WriteCall (lentMap (now (list .entry)) count w h) (now (out .entry)) (now (out .exit)) r ⌝ }
 {
     let mut sheet = [0u8; MOST_CROSSINGS];
     let size = exchange::area(w, h);
@@ -29,7 +30,8 @@ pub extern "C" fn bodkin_write(
     exchange::write_stamped(n, count, w, h, &sheet[..size], out)
 }
 
-// The second part of reading: puts the map's markers in the first slots of the list, by its bits in raster order. Other slots stay.
+// The second part of reading: puts the map's markers in the first slots of the list, by its bits in
+// raster order. Other slots stay.
 fn put(list: &mut [Marker], count: usize, w: usize, h: usize, bits: &[u8])
     requires { ⌜ MayPut (now list) count w h (now bits) ⌝ }
     ensures { λ _. ⌜ now (list .exit) ≡ putIn (now (list .entry)) count (markersOf w h (take (h * w) (now (bits .entry)))) ⌝ }
@@ -44,8 +46,9 @@ fn put(list: &mut [Marker], count: usize, w: usize, h: usize, bits: &[u8])
     }
 }
 
-// Reads a map file. Its rocks become markers with ids 1, 2, 3 and on, in raster order, in the first slots; other slots stay. Hands back width, height
-// and count, or the refusal: 12, 13, 1, 14, 15 or 7, which changes no slot.
+// Reads a map file. Its rocks become markers with ids 1, 2, 3 and on, in raster order, in the first
+// slots; other slots stay. Hands back width, height and count, or the refusal: 12, 13, 1, 14, 15 or
+// 7, which changes no slot.
 #[no_mangle]
 pub extern "C" fn bodkin_read(src: &[u8], list: &mut [Marker]) -> ReadMap
     ensures { λ r. ⌜ ReadCall (now (src .entry)) (now (list .entry)) (now (list .exit)) r ⌝ }

@@ -1,23 +1,27 @@
-// The public calls over the lent list of marker records. No call relies on its caller: each answers by the lowest refusal that applies, or succeeds.
-mod files; // files.rt: the two map-file calls
+// The public calls over the lent list of marker records. No call relies on its caller: each answers
+// by the lowest refusal that applies, or succeeds.
+pub mod files; // files.rt: the two map-file calls
+mod preparing; // preparing.rt: the first part of every asking
 pub mod route; // route.rt: the drive, of which a part of the route is handed back
 
-use answers::Assurance;
-use answers::Drove;
-use answers::Homeward;
-use askings::Four;
-use askings::Labelling;
+use calls::Assurance;
 use calls::Counted;
+use calls::Drove;
+use calls::Four;
+use calls::Homeward;
+use calls::Labelling;
 use field::Marker;
 use field::refusals::ID_NOT_IN_USE;
 use field::refusals::SUCCESS;
-ghost use Rattle.calls.specs.Rules.{Gives};
+use preparing::prepare;
+ghost use Rattle.calls.specs.Rules.{Gives, lentMap};
 ghost use Rattle.calls.specs.Calls.{EnterCall, ClearCall, LabelCall, DistancesCall, MeasureCall, AssuredCall, HopCall, RegionCall, DriveCall};
-ghost use Rattle.layer.specs.Prepared.{Prepared, found-table};
+ghost use Rattle.layer.specs.Prepared.{found-table};
 
-// What is found of the map, the list and an id: refusal 1 or 3, or the id in use, 5, or not in use, 6.
+// What is found of the map, the list and an id: refusal 1 or 3, or the id in use, 5, or not in use,
+// 6.
 fn seek(list: &[Marker], count: usize, w: usize, h: usize, id: u16) -> u8
-    ensures { λ r. ⌜ Gives (found-table (now (list .entry)) count w h id) r ⌝ }
+    ensures { λ r. ⌜ Gives (found-table (lentMap (now (list .entry)) count w h) id) r ⌝ }
 {
     let well = records::well_formed(list, count, w, h);
     let n = judging::list_refusal(w, h, well);
@@ -42,7 +46,7 @@ pub extern "C" fn bodkin_enter(
     x: usize,
     y: usize,
 ) -> Counted
-    ensures { λ r. ⌜ EnterCall (now (list .entry)) count w h id x y (now (list .exit)) r ⌝ }
+    ensures { λ r. ⌜ EnterCall (lentMap (now (list .entry)) count w h) id x y (now (list .exit)) r ⌝ }
 {
     let found = seek(list, count, w, h, id);
     let n = judging::enter_refusal(found, w, h, id, x, y, count, list.len());
@@ -69,7 +73,7 @@ pub extern "C" fn bodkin_clear(
     h: usize,
     id: u16,
 ) -> Counted
-    ensures { λ r. ⌜ ClearCall (now (list .entry)) count w h id (now (list .exit)) r ⌝ }
+    ensures { λ r. ⌜ ClearCall (lentMap (now (list .entry)) count w h) id (now (list .exit)) r ⌝ }
 {
     let found = seek(list, count, w, h, id);
     let n = judging::clear_refusal(found);
@@ -86,33 +90,8 @@ pub extern "C" fn bodkin_clear(
     }
 }
 
-// The first part of every asking: the lowest of refusals 1 to 4, and where there is none, 0, and the rocks stamped on the label sheet. `others` tells
-// whether every other lent sheet is of the map's size; (x, y) and (a, b) are the places asked; a call that
-// asks no place names (0, 0) twice, which is on every map.
-fn prepare(
-    list: &[Marker],
-    count: usize,
-    w: usize,
-    h: usize,
-    x: usize,
-    y: usize,
-    a: usize,
-    b: usize,
-    others: bool,
-    labels: &mut [u8],
-) -> u8
-    ensures { λ r. ⌜ Prepared (now (list .entry)) count w h x y a b others (now (labels .entry)) (now (labels .exit)) r ⌝ }
-{
-    let well = records::well_formed(list, count, w, h);
-    let n = judging::lowest(w, h, labels.len(), others, well, x, y, a, b);
-    if n != SUCCESS {
-        return n;
-    }
-    records::stamp(list, count, w, h, labels);
-    SUCCESS
-}
-
-// Labels the map. Hands back the numbers of rocks' crossings, shut crossings and groups, or the refusal: 1, 2 or 3.
+// Labels the map. Hands back the numbers of rocks' crossings, shut crossings and groups, or the
+// refusal: 1, 2 or 3.
 #[no_mangle]
 pub extern "C" fn bodkin_label(
     list: &[Marker],
@@ -121,7 +100,7 @@ pub extern "C" fn bodkin_label(
     h: usize,
     labels: &mut [u8],
 ) -> Labelling
-    ensures { λ r. ⌜ LabelCall (now (list .entry)) count w h (now (labels .entry)) (now (labels .exit)) r ⌝ }
+    ensures { λ r. ⌜ LabelCall (lentMap (now (list .entry)) count w h) (now (labels .entry)) (now (labels .exit)) r ⌝ }
 {
     let n = prepare(list, count, w, h, 0, 0, 0, 0, true, labels);
     askings::label(n, w, h, labels)
@@ -138,13 +117,14 @@ pub extern "C" fn bodkin_distances(
     y: usize,
     labels: &mut [u8],
 ) -> Four
-    ensures { λ r. ⌜ DistancesCall (now (list .entry)) count w h x y (now (labels .entry)) (now (labels .exit)) r ⌝ }
+    ensures { λ r. ⌜ DistancesCall (lentMap (now (list .entry)) count w h) x y (now (labels .entry)) (now (labels .exit)) r ⌝ }
 {
     let n = prepare(list, count, w, h, x, y, x, y, true, labels);
     askings::distances(n, w, h, x, y, labels)
 }
 
-// The distances of the whole map, into one lent sheet for each way. Answers the refusal, 1, 2 or 3, or 0.
+// The distances of the whole map, into one lent sheet for each way. Answers the refusal, 1, 2 or 3,
+// or 0.
 #[no_mangle]
 pub extern "C" fn bodkin_measure(
     list: &[Marker],
@@ -157,7 +137,7 @@ pub extern "C" fn bodkin_measure(
     west: &mut [u8],
     north: &mut [u8],
 ) -> u8
-    ensures { λ r. ⌜ MeasureCall (now (list .entry)) count w h (now (labels .entry)) (now (east .entry)) (now (south .entry)) (now (west .entry)) (now (north .entry)) (now (labels .exit)) (now (east .exit)) (now (south .exit)) (now (west .exit)) (now (north .exit)) r ⌝ }
+    ensures { λ r. ⌜ MeasureCall (lentMap (now (list .entry)) count w h) (now (labels .entry)) (now (east .entry)) (now (south .entry)) (now (west .entry)) (now (north .entry)) (now (labels .exit)) (now (east .exit)) (now (south .exit)) (now (west .exit)) (now (north .exit)) r ⌝ }
 {
     let others = judging::four_fit(w, h, east.len(), south.len(), west.len(), north.len());
     let n = prepare(list, count, w, h, 0, 0, 0, 0, others, labels);
@@ -177,13 +157,14 @@ pub extern "C" fn bodkin_assured(
     y: usize,
     labels: &mut [u8],
 ) -> Assurance
-    ensures { λ r. ⌜ AssuredCall (now (list .entry)) count w h hx hy x y (now (labels .entry)) (now (labels .exit)) r ⌝ }
+    ensures { λ r. ⌜ AssuredCall (lentMap (now (list .entry)) count w h) hx hy x y (now (labels .entry)) (now (labels .exit)) r ⌝ }
 {
     let n = prepare(list, count, w, h, hx, hy, x, y, true, labels);
     askings::assured(n, w, h, hx, hy, x, y, labels)
 }
 
-// Every permitted hop from (x, y) towards home (hx, hy), none at home, or the refusal: 1, 2, 3, 4, 8 or 11.
+// Every permitted hop from (x, y) towards home (hx, hy), none at home, or the refusal: 1, 2, 3, 4,
+// 8 or 11.
 #[no_mangle]
 pub extern "C" fn bodkin_hop(
     list: &[Marker],
@@ -196,13 +177,14 @@ pub extern "C" fn bodkin_hop(
     y: usize,
     labels: &mut [u8],
 ) -> Homeward
-    ensures { λ r. ⌜ HopCall (now (list .entry)) count w h hx hy x y (now (labels .entry)) (now (labels .exit)) r ⌝ }
+    ensures { λ r. ⌜ HopCall (lentMap (now (list .entry)) count w h) hx hy x y (now (labels .entry)) (now (labels .exit)) r ⌝ }
 {
     let n = prepare(list, count, w, h, hx, hy, x, y, true, labels);
     askings::hop(n, w, h, hx, hy, x, y, labels)
 }
 
-// The crossings on at least one shortest drive from (sx, sy) to (dx, dy). Answers the refusal, 1, 2, 3, 4, 8 or 9, or 0.
+// The crossings on at least one shortest drive from (sx, sy) to (dx, dy). Answers the refusal, 1,
+// 2, 3, 4, 8 or 9, or 0.
 #[no_mangle]
 pub extern "C" fn bodkin_region(
     list: &[Marker],
@@ -216,15 +198,15 @@ pub extern "C" fn bodkin_region(
     labels: &mut [u8],
     region: &mut [u8],
 ) -> u8
-    ensures { λ r. ⌜ RegionCall (now (list .entry)) count w h sx sy dx dy (now (labels .entry)) (now (region .entry)) (now (labels .exit)) (now (region .exit)) r ⌝ }
+    ensures { λ r. ⌜ RegionCall (lentMap (now (list .entry)) count w h) sx sy dx dy (now (labels .entry)) (now (region .entry)) (now (labels .exit)) (now (region .exit)) r ⌝ }
 {
     let others = judging::fits(w, h, region.len());
     let n = prepare(list, count, w, h, sx, sy, dx, dy, others, labels);
     askings::region(n, w, h, sx, sy, dx, dy, labels, region)
 }
 
-// A shortest drive from (sx, sy) to (dx, dy), drawn from the lent state, at the front of the lent route. Hands back how many crossings it has, or the
-// refusal: 1, 2, 3, 4, 8, 9 or 10.
+// A shortest drive from (sx, sy) to (dx, dy), drawn from the lent state, at the front of the lent
+// route. Hands back how many crossings it has, or the refusal: 1, 2, 3, 4, 8, 9 or 10.
 #[no_mangle]
 pub extern "C" fn bodkin_drive(
     list: &[Marker],
@@ -240,7 +222,7 @@ pub extern "C" fn bodkin_drive(
     route: &mut [u16],
     state: &mut u32,
 ) -> Drove
-    ensures { λ r. ⌜ DriveCall (now (list .entry)) count w h sx sy dx dy (now (labels .entry)) (now (region .entry)) (now (route .entry)) (now (state .entry)) (now (labels .exit)) (now (region .exit)) (now (route .exit)) (now (state .exit)) r ⌝ }
+    ensures { λ r. ⌜ DriveCall (lentMap (now (list .entry)) count w h) sx sy dx dy (now (labels .entry)) (now (region .entry)) (now (route .entry)) (now (state .entry)) (now (labels .exit)) (now (region .exit)) (now (route .exit)) (now (state .exit)) r ⌝ }
 {
     let others = judging::fits(w, h, region.len());
     let n = prepare(list, count, w, h, sx, sy, dx, dy, others, labels);

@@ -1,4 +1,5 @@
--- When bytes are a map of this width and height with these rocks, and which refusal a file gets otherwise.
+-- When bytes are a map of this width and height with these rocks, and which refusal a file gets
+-- otherwise.
 use mathlib.Core.Path.{_≡_}
 use mathlib.Core.List.{List, [], _∷_, _++_}
 use mathlib.Core.Logic.{_⊎_}
@@ -55,7 +56,8 @@ pub record FileRock (w h : ℕ) (bits : List ℕ) (x y : ℕ) : Type 0 where
   pub on : On w h x y
   pub one : getD bits (rasterPlace w h x y) 0 ≡ 1
 
--- "Reading makes markers with ids 1, 2, 3 and on, in raster order": from the k-th bit on, the next id being n.
+-- "Reading makes markers with ids 1, 2, 3 and on, in raster order": from the k-th bit on, the next
+-- id being n.
 unfoldable pub markersFrom : ℕ → ℕ → ℕ → ℕ → List ℕ → List Marker
 markersFrom w h n k [] = []
 markersFrom w h n k (zero ∷ bits) = markersFrom w h n (k + 1) bits
@@ -64,7 +66,8 @@ markersFrom w h n k (suc b ∷ bits) = record { id = n; x = k % w; y = h - (k / 
 unfoldable pub markersOf : ℕ → ℕ → List ℕ → List Marker
 markersOf w h bits = markersFrom w h 1 0 bits
 
--- The refusals of a file that is not a map, in document 01's order: "12, 13 in the header, 1, then the raster: at the first fault met 13, 14 or 15".
+-- The refusals of a file that is not a map, in document 01's order: "12, 13 in the header, 1, then
+-- the raster: at the first fault met 13, 14 or 15".
 pub data FileFault (file : List ℕ) (n : ℕ) : Type 0 where
   no-letters : ((f : Format) (rest : List ℕ) → ¬ Letters f file rest) → n ≡ bad-letters → FileFault file n
   no-header : (f : Format) (after : List ℕ) → Letters f file after → ((w h : ℕ) (body : List ℕ) → ¬ Header (w ∷ h ∷ []) after body)

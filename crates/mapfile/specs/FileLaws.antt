@@ -1,4 +1,5 @@
--- A file is one map at most, and has one fault at most; with a fault it is no map. Letters, header, sides and raster are each settled by the bytes.
+-- A file is one map at most, and has one fault at most; with a fault it is no map. Letters, header,
+-- sides and raster are each settled by the bytes.
 use mathlib.Core.Path.{_≡_, refl, sym, subst, _∙_}
 use mathlib.Core.List.{List, [], _∷_}
 use Prim.Native.Nat.{ℕ}

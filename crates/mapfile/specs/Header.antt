@@ -1,5 +1,5 @@
--- The header's grammar, on lists of bytes: blanks, comments, separators, numbers. It is free of the format's letters and of how many numbers
--- follow.
+-- The header's grammar, on lists of bytes: blanks, comments, separators, numbers. It is free of the
+-- format's letters and of how many numbers follow.
 use mathlib.Core.Path.{_≡_}
 use mathlib.Core.List.{List, [], _∷_, _++_}
 use Prim.Native.Nat.{ℕ, suc, _+_, _*_, _-_, _<_, _≤_}
@@ -25,8 +25,8 @@ pub record Comment (l : List ℕ) : Type 0 where
   pub ended : LineEnd end
   pub is : l ≡ 35 ∷ text ++ end ∷ []
 
--- "A separator is one or more items, each a blank or a comment, at least one of them a blank; ... and blanks and comments may follow one another
--- freely." Items with n blanks among them.
+-- "A separator is one or more items, each a blank or a comment, at least one of them a blank; ...
+-- and blanks and comments may follow one another freely." Items with n blanks among them.
 pub data Items : ℕ → List ℕ → Type 0 where
   no-items : {n : ℕ} {l : List ℕ} → n ≡ 0 → l ≡ [] → Items n l
   blank-item : {n m : ℕ} {l k : List ℕ} (b : ℕ) → Blank b → Items n k → m ≡ n + 1 → l ≡ b ∷ k → Items m l
@@ -57,7 +57,8 @@ pub record Number (v : ℕ) (l : List ℕ) : Type 0 where
   pub few : length l ≤ most-digits
   pub value : v ≡ valueFrom 0 l
 
--- A separator before each number, and "exactly one blank byte" after the last: the header's bytes after the letters, with the values of its numbers.
+-- A separator before each number, and "exactly one blank byte" after the last: the header's bytes
+-- after the letters, with the values of its numbers.
 pub data Numbers : List ℕ → List ℕ → Type 0 where
   last-blank : {vs l : List ℕ} (b : ℕ) → Blank b → vs ≡ [] → l ≡ b ∷ [] → Numbers vs l
   next-number : {us vs l : List ℕ} (v : ℕ) (s d k : List ℕ) → Separator s → Number v d → Numbers vs k → us ≡ v ∷ vs → l ≡ s ++ d ++ k → Numbers us l

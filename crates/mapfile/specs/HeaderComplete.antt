@@ -1,5 +1,6 @@
--- What is a header by the grammar the working accepts, with the same numbers and the same rest. A separator's items are skipped whole, since what
--- follows it is a digit, and a number's digits are, since what follows it is a blank or a #.
+-- What is a header by the grammar the working accepts, with the same numbers and the same rest. A
+-- separator's items are skipped whole, since what follows it is a digit, and a number's digits are,
+-- since what follows it is a blank or a #.
 use mathlib.Core.Path.{_≡_, refl, sym, ap, _∙_}
 use mathlib.Core.Bool.{Bool, true, false}
 use mathlib.Core.List.{List, [], _∷_, _++_, append-assoc}

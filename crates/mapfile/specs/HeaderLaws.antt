@@ -1,5 +1,6 @@
--- A header is read in one way only. The working gives one answer, and it gives each header's numbers and rest: so two headers of the same bytes, with
--- as many numbers, have the same numbers and the same rest.
+-- A header is read in one way only. The working gives one answer, and it gives each header's
+-- numbers and rest: so two headers of the same bytes, with as many numbers, have the same numbers
+-- and the same rest.
 use mathlib.Core.Path.{_≡_, refl, sym, subst, _∙_}
 use mathlib.Core.List.{List, [], _∷_}
 use mathlib.Core.Option.{some}

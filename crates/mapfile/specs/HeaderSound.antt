@@ -1,4 +1,5 @@
--- What the header's working accepts is so by the grammar: each step that it makes over the bytes is an item, a digit or the last blank.
+-- What the header's working accepts is so by the grammar: each step that it makes over the bytes is
+-- an item, a digit or the last blank.
 use mathlib.Core.Path.{_≡_, refl, sym, ap, _∙_}
 use mathlib.Core.Bool.{Bool, true, false}
 use mathlib.Core.List.{List, [], _∷_, _++_, append-assoc}

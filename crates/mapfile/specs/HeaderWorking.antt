@@ -1,5 +1,6 @@
--- The header read byte by byte, as functions on the bytes left: what is read, and what then is left. A separator is skipped as far as it goes, and
--- so are a number's digits, since neither a digit can belong to a separator nor a separator's byte to a number.
+-- The header read byte by byte, as functions on the bytes left: what is read, and what then is
+-- left. A separator is skipped as far as it goes, and so are a number's digits, since neither a
+-- digit can belong to a separator nor a separator's byte to a number.
 use mathlib.Core.Path.{_≡_, refl, _∙_}
 use mathlib.Core.Bool.{Bool, true, false}
 use mathlib.Core.List.{List, [], _∷_}
@@ -10,7 +11,7 @@ use native.Mathlib.Decide.{decLe, decLt, ℕ-discrete}
 use Rattle.mapfile.specs.Header.{Blank, space, tab, return, feed, LineEnd, at-return, at-feed, Digit, most-digits}
 
 -- Whether a byte is a blank, a line's end, a digit.
-pub blankDec : (b : ℕ) → Dec (Blank b)
+unfoldable pub blankDec : (b : ℕ) → Dec (Blank b)
 blankDec b = go (ℕ-discrete b 32) (ℕ-discrete b 9) (ℕ-discrete b 13) (ℕ-discrete b 10)
   where
     go : Dec (b ≡ 32) → Dec (b ≡ 9) → Dec (b ≡ 13) → Dec (b ≡ 10) → Dec (Blank b)
@@ -26,7 +27,7 @@ blankDec b = go (ℕ-discrete b 32) (ℕ-discrete b 9) (ℕ-discrete b 13) (ℕ-
         none-of (return e) = r e
         none-of (feed e) = s e
 
-pub lineEndDec : (b : ℕ) → Dec (LineEnd b)
+unfoldable pub lineEndDec : (b : ℕ) → Dec (LineEnd b)
 lineEndDec b = go (ℕ-discrete b 13) (ℕ-discrete b 10)
   where
     go : Dec (b ≡ 13) → Dec (b ≡ 10) → Dec (LineEnd b)
@@ -38,7 +39,7 @@ lineEndDec b = go (ℕ-discrete b 13) (ℕ-discrete b 10)
         none-of (at-return e) = p e
         none-of (at-feed e) = q e
 
-pub digitDec : (b : ℕ) → Dec (Digit b)
+unfoldable pub digitDec : (b : ℕ) → Dec (Digit b)
 digitDec b = go (decLe 48 b) (decLe b 57)
   where
     go : Dec (48 ≤ b) → Dec (b ≤ 57) → Dec (Digit b)
@@ -47,7 +48,7 @@ digitDec b = go (decLe 48 b) (decLe b 57)
     go (no p) q = no (λ d. p (d .from-zero))
 
 -- One of two, as a test says.
-pub pick : {P A : Type 0} → Dec P → A → A → A
+unfoldable pub pick : {P A : Type 0} → Dec P → A → A → A
 pick (yes p) a b = a
 pick (no p) a b = b
 
@@ -66,8 +67,9 @@ unfoldable pub endItems : Bool → List ℕ → Option (List ℕ)
 endItems true l = some l
 endItems false l = none
 
--- What follows the items of a separator, and what follows the rest of a comment and the items after it. `seen`: a blank was among the items so far.
-mutual
+-- What follows the items of a separator, and what follows the rest of a comment and the items after
+-- it. `seen`: a blank was among the items so far.
+unfoldable mutual
   pub afterItems : List ℕ → Bool → Option (List ℕ)
   afterItems [] seen = endItems seen []
   afterItems (b ∷ l) seen =
@@ -122,8 +124,9 @@ unfoldable pub endNumber : ℕ → ℕ → List ℕ → Value
 endNumber zero v l = no-value
 endNumber (suc n) v l = value v l
 
--- The value and what follows it, after n digits whose value is v. One digit too many, and there is no number.
-pub numberFrom : List ℕ → ℕ → ℕ → Value
+-- The value and what follows it, after n digits whose value is v. One digit too many, and there is
+-- no number.
+unfoldable pub numberFrom : List ℕ → ℕ → ℕ → Value
 numberFrom [] n v = endNumber n v []
 numberFrom (b ∷ l) n v =
     pick (digitDec b) (pick (decLt n most-digits) (numberFrom l (suc n) (v * 10 + (b - 48))) no-value) (endNumber n v (b ∷ l))
@@ -153,7 +156,7 @@ unfoldable pub nextNumber : List ℕ → Value
 nextNumber l = numberAfter (afterItems l false)
 
 -- The blank byte after the last number.
-pub lastBlank : List ℕ → Option (List ℕ)
+unfoldable pub lastBlank : List ℕ → Option (List ℕ)
 lastBlank [] = none
 lastBlank (b ∷ l) = pick (blankDec b) (some l) none
 
@@ -169,7 +172,8 @@ pub last-blank-other : {b : ℕ} (l : List ℕ) → ¬ Blank b → lastBlank (b 
 unfolding lastBlank
 last-blank-other {b} l e = pick-no (blankDec b) _ _ e
 
--- The bytes l give these numbers, each after a separator, then the blank byte after the last, and this is what follows.
+-- The bytes l give these numbers, each after a separator, then the blank byte after the last, and
+-- this is what follows.
 unfoldable pub GivesNumbers : List ℕ → List ℕ → List ℕ → Type 0
 GivesNumbers [] l rest = lastBlank l ≡ some rest
 GivesNumbers (v ∷ vs) l rest = (m : List ℕ) × (nextNumber l ≡ value v m) × GivesNumbers vs m rest

@@ -1,5 +1,6 @@
--- The markers of a file's bits: their number, their ids, and the crossings that they stand on. The k-th bit speaks of the crossing x = k % w in the
--- row that stands k / w rows from the north, and rasterPlace is the way back.
+-- The markers of a file's bits: their number, their ids, and the crossings that they stand on. The
+-- k-th bit speaks of the crossing x = k % w in the row that stands k / w rows from the north, and
+-- rasterPlace is the way back.
 use mathlib.Core.Path.{_≡_, refl, ap, ap₂, _∙_}
 use mathlib.Core.List.{List, [], _∷_, _++_}
 use Prim.Native.Nat.{ℕ, zero, suc, _+_, _-_, _/_, _%_, _<_, _≤_}

@@ -1,5 +1,6 @@
--- Packed bytes by their bits. Doubling a number and adding a bit moves its bits up by one; so a number below 2 ^ n is fixed by its n bits, a byte
--- by eight, and packed rows by the rocks that they show.
+-- Packed bytes by their bits. Doubling a number and adding a bit moves its bits up by one; so a
+-- number below 2 ^ n is fixed by its n bits, a byte by eight, and packed rows by the rocks that
+-- they show.
 use mathlib.Core.Path.{_≡_, sym, ap, _∙_}
 use mathlib.Core.List.{List}
 use Prim.Native.Nat.{ℕ, zero, suc, _+_, _*_, _-_, _/_, _%_, _^_, _<_}

@@ -1,5 +1,6 @@
--- A number has one way to be written without leading zeros. Read from the front, equal values of equally many digits give equal digits; and
--- if one had more digits, those in front would have the value 0, though the first of them is no zero.
+-- A number has one way to be written without leading zeros. Read from the front, equal values of
+-- equally many digits give equal digits; and if one had more digits, those in front would have the
+-- value 0, though the first of them is no zero.
 use mathlib.Core.Path.{_≡_, refl, sym, ap, _∙_}
 use mathlib.Core.List.{List, [], _∷_, _++_}
 use Prim.Native.Nat.{ℕ, suc, _+_, _*_, _-_, _<_, _≤_}
@@ -26,7 +27,7 @@ value-some v [] h = h
 value-some v (d ∷ l) h = value-some (v * 10 + (d - 48)) l (omega arith)
 
 -- Equally many digits after a and after b, of equal value: a is b and the digits are the same.
-value-same : (a b : ℕ) (l k : List ℕ) → AllDigits l → AllDigits k → length l ≡ length k → valueFrom a l ≡ valueFrom b k → (a ≡ b) × (l ≡ k)
+pub value-same : (a b : ℕ) (l k : List ℕ) → AllDigits l → AllDigits k → length l ≡ length k → valueFrom a l ≡ valueFrom b k → (a ≡ b) × (l ≡ k)
 unfolding valueFrom
 value-same a b [] [] p q s e = (e, refl)
 value-same a b [] (d ∷ k) p q s e = absurd (omega arith)
@@ -58,8 +59,8 @@ plain-some v l p =
     omega (arith, rw (take-length l) at (front-some l (length l) (p .number .digits) (p .leading) (p .number .some) (p .number .some)), p .number .value)
 
 -- And it has no more digits than any other of its value.
-plain-shortest : (v : ℕ) (l k : List ℕ) → Plain v l → Number v k → ¬ (length k < length l)
-plain-shortest v l k p q h = clash (value-same 0 (valueFrom 0 front) k back (q .digits) digits size same .0)
+pub digits-shortest : (l k : List ℕ) → AllDigits l → AllDigits k → ¬ (getD l 0 0 ≡ 48) → valueFrom 0 l ≡ valueFrom 0 k → ¬ (length k < length l)
+digits-shortest l k p q z e h = clash (value-same 0 (valueFrom 0 front) k back q digits size same .0)
   where
     front : List ℕ
     front = take (length l - length k) l
@@ -71,20 +72,21 @@ plain-shortest v l k p q h = clash (value-same 0 (valueFrom 0 front) k back (q .
     size = sym (length-drop (length l - length k) l ∙ omega arith)
 
     digits : AllDigits back
-    digits i m = rw (getD-drop (length l - length k) l i 0) (p .number .digits (length l - length k + i) (omega (arith, size)))
+    digits i m = rw (getD-drop (length l - length k) l i 0) (p (length l - length k + i) (omega (arith, size)))
 
     same : valueFrom 0 k ≡ valueFrom (valueFrom 0 front) back
-    same =
-        sym (q .value) ∙ p .number .value ∙ ap (valueFrom 0) (sym (take-append-drop (length l - length k) l)) ∙ value-append 0 front back
+    same = sym e ∙ ap (valueFrom 0) (sym (take-append-drop (length l - length k) l)) ∙ value-append 0 front back
 
     clash : 0 ≡ valueFrom 0 front → ⊥
-    clash e = omega (arith, front-some l (length l - length k) (p .number .digits) (p .leading) (omega arith) (p .number .some), e)
+    clash c = omega (arith, front-some l (length l - length k) p z (omega arith) (omega arith), c)
 
 pub plain-one : (v : ℕ) (l k : List ℕ) → Plain v l → Plain v k → l ≡ k
 plain-one v l k p q = go (decLt (length k) (length l)) (decLt (length l) (length k))
   where
+    same : valueFrom 0 l ≡ valueFrom 0 k
+    same = sym (p .number .value) ∙ q .number .value
+
     go : Dec (length k < length l) → Dec (length l < length k) → l ≡ k
-    go (yes m) d = absurd (plain-shortest v l k p (q .number) m)
-    go (no m) (yes n) = absurd (plain-shortest v k l q (p .number) n)
-    go (no m) (no n) =
-        value-same 0 0 l k (p .number .digits) (q .number .digits) (omega arith) (sym (p .number .value) ∙ q .number .value) .1
+    go (yes m) d = absurd (digits-shortest l k (p .number .digits) (q .number .digits) (p .leading) same m)
+    go (no m) (yes n) = absurd (digits-shortest k l (q .number .digits) (p .number .digits) (q .leading) (sym same) n)
+    go (no m) (no n) = value-same 0 0 l k (p .number .digits) (q .number .digits) (omega arith) same .1

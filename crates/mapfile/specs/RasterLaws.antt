@@ -1,4 +1,5 @@
--- The bits of a raster are one, and so is the number of its fault; where there is a fault there is no raster.
+-- The bits of a raster are one, and so is the number of its fault; where there is a fault there is
+-- no raster.
 use mathlib.Core.Path.{_≡_, refl, sym, ap, _∙_}
 use mathlib.Core.List.{List, [], _∷_, _++_, append-nil}
 use Prim.Native.Nat.{ℕ, zero, suc, _*_, _-_, _≤_}

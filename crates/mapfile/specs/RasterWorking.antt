@@ -14,7 +14,7 @@ unfoldable pub rawBits : ℕ → ℕ → List ℕ → List ℕ
 rawBits w h l = sheet w h (λ x r. packedBit w l r x)
 
 -- The bits of the digits 0 and 1; other bytes are passed over.
-pub digitsOf : List ℕ → List ℕ
+unfoldable pub digitsOf : List ℕ → List ℕ
 digitsOf [] = []
 digitsOf (b ∷ l) = pick (ℕ-discrete b 48) (0 ∷ digitsOf l) (pick (ℕ-discrete b 49) (1 ∷ digitsOf l) (digitsOf l))
 
@@ -55,7 +55,7 @@ digits-of-append (b ∷ l) k = go (ℕ-discrete b 48) (ℕ-discrete b 49) (digit
         digits-of-other (l ++ k) p q ∙ e ∙ ap (λ (m : List ℕ). m ++ digitsOf k) (sym (digits-of-other l p q))
 
 -- The verdict on a P1 raster with n digits still to come: the refusal at the first fault, or 0.
-pub plainVerdict : List ℕ → ℕ → ℕ
+unfoldable pub plainVerdict : List ℕ → ℕ → ℕ
 plainVerdict [] zero = 0
 plainVerdict [] (suc n) = 14
 plainVerdict (b ∷ l) zero = pick (blankDec b) (plainVerdict l zero) 15

@@ -1,4 +1,5 @@
--- The markers of a map file stand exactly on its rocks, all on the map, with ids rising from 1: a marker for each crossing whose bit is 1.
+-- The markers of a map file stand exactly on its rocks, all on the map, with ids rising from 1: a
+-- marker for each crossing whose bit is 1.
 use mathlib.Core.Path.{_≡_, sym, ap, ap₂, _∙_}
 use mathlib.Core.List.{List}
 use mathlib.Core.Logic.{_↔_}

@@ -1,4 +1,5 @@
--- What writing gives: "P4", LF, width, space, height, LF and the rows, pad bits 0, with no leading zeros.
+-- What writing gives: "P4", LF, width, space, height, LF and the rows, pad bits 0, with no leading
+-- zeros.
 use mathlib.Core.Path.{_≡_}
 use mathlib.Core.List.{List, [], _∷_, _++_}
 use Prim.Native.Nat.{ℕ, zero, suc, _+_, _*_, _-_, _/_, _%_, _^_, _<_, _≤_}
@@ -12,7 +13,8 @@ pub record Plain (v : ℕ) (l : List ℕ) : Type 0 where
   pub number : Number v l
   pub leading : ¬ (getD l 0 0 ≡ 48)
 
--- The packed rows: R tells the rocks; each bit of a crossing is 1 exactly at a rock, and pad bits are 0.
+-- The packed rows: R tells the rocks; each bit of a crossing is 1 exactly at a rock, and pad bits
+-- are 0.
 pub record PackedRows (w h : ℕ) (R : ℕ → ℕ → Type 0) (l : List ℕ) : Type 0 where
   pub size : length l ≡ h * rowBytes w
   pub bytes : (i : ℕ) → getD l i 0 < 256

@@ -1,5 +1,6 @@
--- What writing gives is one list of bytes, and a map by the grammar with the same crossings. The first holds as each piece has one form; the second
--- as the pieces are the header and the raster of a P4 file.
+-- What writing gives is one list of bytes, and a map by the grammar with the same crossings. The
+-- first holds as each piece has one form; the second as the pieces are the header and the raster of
+-- a P4 file.
 use mathlib.Core.Path.{_≡_, refl, sym, _∙_}
 use mathlib.Core.Logic.{_↔_}
 use mathlib.Core.List.{List, [], _∷_, _++_, append-assoc}
@@ -95,13 +96,15 @@ written-map w h R told file sides p = (
     split : (a b c : List ℕ) → 10 ∷ a ++ 32 ∷ b ++ 10 ∷ c ≡ 10 ∷ a ++ (32 ∷ b ++ 10 ∷ []) ++ c
     split a b c = simp append-assoc
 
--- A file is read as this map: the width and height are those that were written, and the markers that reading makes stand exactly on its rocks.
+-- A file is read as this map: the width and height are those that were written, and the markers
+-- that reading makes stand exactly on its rocks.
 pub record ReadBack (w h : ℕ) (R : ℕ → ℕ → Type 0) (width height : ℕ) (bits : List ℕ) : Type 0 where
   pub width-is : width ≡ w
   pub height-is : height ≡ h
   pub rocks : (x y : ℕ) → Rock (markersOf width height bits) x y ↔ (On w h x y × R x y)
 
--- "Reading a written map ... gives the same crossings": by the grammar a file is one map at most, and what is written is that of the rocks.
+-- "Reading a written map ... gives the same crossings": by the grammar a file is one map at most,
+-- and what is written is that of the rocks.
 pub read-written : (w h : ℕ) (R : ℕ → ℕ → Type 0) → Told w h R → (file : List ℕ) → Sides w h → Written w h R file
     → (width height : ℕ) (bits : List ℕ) → MapFile file width height bits → ReadBack w h R width height bits
 read-written w h R told file sides p width height bits m =

@@ -11,8 +11,9 @@ use Rattle.field.specs.Labels.{blank}
 abbrev pub slot : List Marker → ℕ → Marker
 slot list k = getD list k blank
 
--- "A marker is a record of a sixteen-bit id (1 to 65,535) and a crossing. The caller lends a list of marker records with a count of those in use.
--- Ids in use rise strictly. At most 4,096 are in use." Refusal 3 is given exactly where this fails: "count over 4,096 or over the list lent, an id
+-- "A marker is a record of a sixteen-bit id (1 to 65,535) and a crossing. The caller lends a list
+-- of marker records with a count of those in use. Ids in use rise strictly. At most 4,096 are in
+-- use." Refusal 3 is given exactly where this fails: "count over 4,096 or over the list lent, an id
 -- 0, ids not rising, or a marker off the map". Slots past the count are not looked at.
 pub record WellFormed (w h : ℕ) (list : List Marker) (count : ℕ) : Type 0 where
   pub few : count ≤ most-markers
@@ -27,8 +28,8 @@ pub record InUse (list : List Marker) (count id : ℕ) : Type 0 where
   pub below : place < count
   pub is : slot list place .id ≡ id
 
--- "Entering puts the marker at its place by id and moves the later ones up by one." What stands past the count, but for the one slot that is taken,
--- stays.
+-- "Entering puts the marker at its place by id and moves the later ones up by one." What stands
+-- past the count, but for the one slot that is taken, stays.
 pub record Entered (list : List Marker) (count : ℕ) (m : Marker) (after : List Marker) : Type 0 where
   pub place : ℕ
   pub within : place ≤ count

@@ -1,5 +1,6 @@
--- Demand 3, first half: after any sequence of entering and clearing, every group of closed crossings is a full rectangle, any two at least three
--- hops apart. It holds of the closed crossings of any rocks, and a list that is reached is well formed, with its markers as its rocks.
+-- Demand 3, first half: after any sequence of entering and clearing, every group of closed
+-- crossings is a full rectangle, any two at least three hops apart. It holds of the closed
+-- crossings of any rocks, and a list that is reached is well formed, with its markers as its rocks.
 use mathlib.Core.List.{List}
 use Prim.Native.Nat.{ℕ, _≤_}
 use Rattle.field.specs.declared.Marker.{Marker}

@@ -1,5 +1,6 @@
--- A crossing's distance from its neighbour's. What lies ahead of a crossing that way is what its neighbour has, or nothing at the edge; so a closed
--- crossing has 0, and an open one has one hop more than its neighbour, or none where the neighbour has none.
+-- A crossing's distance from its neighbour's. What lies ahead of a crossing that way is what its
+-- neighbour has, or nothing at the edge; so a closed crossing has 0, and an open one has one hop
+-- more than its neighbour, or none where the neighbour has none.
 use mathlib.Core.Path.{_≡_, refl, sym, subst}
 use mathlib.Core.List.{List}
 use Prim.Native.Nat.{ℕ, _+_, _-_, _<_, _≤_}
@@ -12,7 +13,8 @@ use Rattle.measures.specs.Running.{Onward, closed, lost, further, Neighb
 use Rattle.distances.proofs.Ways.{along-start, along-join, along-rest}
 use Rattle.distances.proofs.Looking.{Bare, bare-first, bare-met, bare-past}
 
--- What lies ahead of (x, y) that way, itself left out: the nearest mark is m + 1 hops away, or there is none and m is the mark for none.
+-- What lies ahead of (x, y) that way, itself left out: the nearest mark is m + 1 hops away, or
+-- there is none and m is the mark for none.
 pub data Ahead (s : List ℕ) (w h : ℕ) (t : Way) (x y m : ℕ) : Type 0 where
   met : (a b : ℕ) → Along t (m + 1) x y a b → Marked s w h a b
       → ((k c d : ℕ) → 0 < k → k < m + 1 → Along t k x y c d → ¬ Marked s w h c d) → Ahead s w h t x y m
@@ -37,7 +39,8 @@ module _ {s : List ℕ} {w h : ℕ} {t : Way} {x y : ℕ} where
   ahead-neighbour (edge off e) f = subst (Ahead s w h t x y) (sym e) (ahead-edge off)
   ahead-neighbour (next a b o l e) f = subst (Ahead s w h t x y) (sym e) (ahead-next a b l (f a b o l))
 
-  -- The number made of what the sheet has at (x, y) and of what lies ahead is then the distance of (x, y).
+  -- The number made of what the sheet has at (x, y) and of what lies ahead is then the distance of
+  -- (x, y).
   pub onward-clear : {m r : ℕ} → Sides w h → On w h x y → Onward (at s w x y) m r → Ahead s w h t x y m → Clear (Marked s w h) t x y r
   onward-clear sides o (closed l e) f = at-closed (record { on = o; mark = l }) e
   onward-clear {m} sides o (lost z n e) (met a b l c f) =

@@ -1,5 +1,6 @@
--- Filling a sheet with the distances one way. A store of a crossing's own distance takes nothing from any crossing that has its distance already,
--- so what rows and sheets gain is what their crossings gain one after the other.
+-- Filling a sheet with the distances one way. A store of a crossing's own distance takes nothing
+-- from any crossing that has its distance already, so what rows and sheets gain is what their
+-- crossings gain one after the other.
 use mathlib.Core.Path.{_≡_, refl, sym, subst, ap, _∙_}
 use mathlib.Core.List.{List}
 use mathlib.Core.Logic.{_⊎_, inl, inr, _≢_}
@@ -48,7 +49,8 @@ module _ {w h : ℕ} {s : List ℕ} {t : Way} where
   pub gains-less : {D E : ℕ → ℕ → Type 0} {u v : List ℕ} → Gains w h s t D u v → ((a b : ℕ) → On w h a b → E a b → D a b) → Gains w h s t E u v
   gains-less g f = record { size = g .size; keeps = g .keeps; gains = λ a b o e. g .gains a b o (f a b o e) }
 
-  -- After D has gained, and then row y, all of F has: each of its crossings outside the row is in D.
+  -- After D has gained, and then row y, all of F has: each of its crossings outside the row is in
+  -- D.
   pub gains-row : {D F : ℕ → ℕ → Type 0} {y : ℕ} {u v z : List ℕ} → Gains w h s t D u v → Gains w h s t (Row y) v z
       → ((a b : ℕ) → b ≢ y → F a b → D a b) → Gains w h s t F u z
   gains-row {D} {F} {y} g k f = gains-then g k (λ a b o d. go a b d (ℕ-discrete b y))
@@ -57,7 +59,8 @@ module _ {w h : ℕ} {s : List ℕ} {t : Way} where
       go a b d (yes e) = inr e
       go a b d (no n) = inl (f a b n d)
 
-  -- The neighbours that had their distances before a gain have them after it: so what is read there is what lies ahead.
+  -- The neighbours that had their distances before a gain have them after it: so what is read there
+  -- is what lies ahead.
   pub gains-ahead : {D : ℕ → ℕ → Type 0} {x y r : ℕ} {u v : List ℕ} → ReadyAfter w h s t u y → Gains w h s t D u v → Neighbour w h t x y v r
       → Ahead s w h t x y r
   gains-ahead {x = x} q g n = ahead-neighbour n (λ a b o l. g .keeps a b o (q .after x a b o l))
@@ -67,7 +70,8 @@ module _ {w h : ℕ} {s : List ℕ} {t : Way} where
       → DistanceSheet w h (Marked s w h) t v
   gains-sheet r g all = record { size = g .size ∙ r .room; distance = λ x y o. g .gains x y o (all x y o) }
 
-  -- A crossing of the map, whose number r is put on sheet u and makes v of it; `last` is what lies ahead of it.
+  -- A crossing of the map, whose number r is put on sheet u and makes v of it; `last` is what lies
+  -- ahead of it.
   module _ {x y last r : ℕ} {u v : List ℕ} (q : Ready w h s u) (o : On w h x y) (p : Put w x y last s u v r) (f : Ahead s w h t x y last) where
     -- The number is the distance.
     pub put-clear : Clear (Marked s w h) t x y r

@@ -1,3 +1,4 @@
--- What the proofs of several functions share: the number ahead of a crossing, and how the numbers fill a sheet.
+-- What the proofs of several functions share: the number ahead of a crossing, and how the numbers
+-- fill a sheet.
 mod Ahead
 mod Filling

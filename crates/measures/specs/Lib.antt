@@ -1,3 +1,4 @@
--- What the whole map's clear distances promise, and what the functions behind them promise one another.
+-- What the whole map's clear distances promise, and what the functions behind them promise one
+-- another.
 pub mod Promise
 pub mod Running

@@ -1,4 +1,5 @@
--- The promise of the whole map's clear distances, over a sheet that marks the closed crossings: whatever is not 0 on it.
+-- The promise of the whole map's clear distances, over a sheet that marks the closed crossings:
+-- whatever is not 0 on it.
 use mathlib.Core.Path.{_≡_}
 use mathlib.Core.List.{List}
 use Prim.Native.Nat.{ℕ, _*_}

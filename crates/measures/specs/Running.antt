@@ -1,4 +1,5 @@
--- What the functions behind `measure` promise one another: a crossing's number from its neighbour's, and how the numbers fill a sheet.
+-- What the functions behind `measure` promise one another: a crossing's number from its
+-- neighbour's, and how the numbers fill a sheet.
 use mathlib.Core.Path.{_≡_}
 use mathlib.Core.List.{List}
 use mathlib.Core.Logic.{_≢_}
@@ -9,8 +10,9 @@ use Rattle.field.specs.Distances.{Way, Along, Clear}
 use Rattle.field.specs.Workings.Sheet.{Marked}
 use Rattle.sheets.specs.Promise.{Fits}
 
--- A crossing's number r, from what the sheet has there, v, and from its neighbour's number that way, which is the mark for none at the edge:
--- 0 where the crossing is closed, none where the neighbour has none, and else one more.
+-- A crossing's number r, from what the sheet has there, v, and from its neighbour's number that
+-- way, which is the mark for none at the edge: 0 where the crossing is closed, none where the
+-- neighbour has none, and else one more.
 pub data Onward (v last r : ℕ) : Type 0 where
   closed : 0 < v → r ≡ 0 → Onward v last r
   lost : v ≡ 0 → last ≡ no-distance → r ≡ no-distance → Onward v last r
@@ -46,7 +48,8 @@ pub record Put (w x y last : ℕ) (s u v : List ℕ) (r : ℕ) : Type 0 where
   pub onward : Onward (at s w x y) last r
   pub written : v ≡ set u (number w x y) r
 
--- From sheet u to sheet v, the crossings of D get their distances that way, and those that have theirs already keep them.
+-- From sheet u to sheet v, the crossings of D get their distances that way, and those that have
+-- theirs already keep them.
 pub record Gains (w h : ℕ) (s : List ℕ) (t : Way) (D : ℕ → ℕ → Type 0) (u v : List ℕ) : Type 0 where
   pub size : length v ≡ length u
   pub keeps : (a b : ℕ) → On w h a b → Clear (Marked s w h) t a b (at u w a b) → Clear (Marked s w h) t a b (at v w a b)

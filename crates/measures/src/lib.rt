@@ -4,7 +4,8 @@ mod sheet; // sheet.rt: the distances of the map, one way
 
 ghost use Rattle.measures.specs.Promise.{Lent, Measured};
 
-// The distances of the whole map, one sheet for each way. Each number is made of its neighbour's: no crossing is looked at twice for one way.
+// The distances of the whole map, one sheet for each way. Each number is made of its neighbour's:
+// no crossing is looked at twice for one way.
 pub fn measure(
     s: &[u8],
     w: usize,

@@ -1,13 +1,14 @@
-// The distances of one row, a function for each way. East and west one running number goes along the row, from the edge on; south and north each
-// number is made of the one next to it in the row written before.
+// The distances of one row, a function for each way. East and west one running number goes along
+// the row, from the edge on; south and north each number is made of the one next to it in the row
+// written before.
 use distances::NONE;
 use sheets::mark;
 ghost use Rattle.field.specs.Distances.{eastward, southward, westward, northward};
 ghost use Rattle.sheets.specs.Promise.{Asked};
 ghost use Rattle.measures.specs.Running.{Onward, ReadyAt, ReadyRow, ReadyAfter, Neighbour, Put, Gains, Row};
 
-// A crossing's number, from what the sheet has there and from the number of its neighbour that way: 0 where it is closed, none where the
-// neighbour has none, and else one more.
+// A crossing's number, from what the sheet has there and from the number of its neighbour that way:
+// 0 where it is closed, none where the neighbour has none, and else one more.
 fn run_on(closed: u8, last: u8) -> u8
     ensures { λ r. ⌜ Onward closed last r ⌝ }
 {

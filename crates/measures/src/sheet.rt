@@ -1,4 +1,5 @@
-// The distances of the whole map, a function for each way: row by row, each into its own part of the sheet.
+// The distances of the whole map, a function for each way: row by row, each into its own part of
+// the sheet.
 use crate::row;
 ghost use Rattle.field.specs.Distances.{DistanceSheet, eastward, southward, westward, northward};
 ghost use Rattle.field.specs.Workings.Sheet.{Marked};

@@ -1,5 +1,5 @@
--- A slice that is filled from the front: what is written so far, and behind it what stood there. Writing the next byte, or the next part once it is
--- back, lengthens the front by it.
+-- A slice that is filled from the front: what is written so far, and behind it what stood there.
+-- Writing the next byte, or the next part once it is back, lengthens the front by it.
 use mathlib.Core.Path.{_≡_, refl, sym, ap, _∙_}
 use mathlib.Core.List.{List, [], _∷_, _++_, append-assoc, append-nil}
 use Prim.Native.Nat.{ℕ, suc, _+_, _-_, _<_, _≤_}

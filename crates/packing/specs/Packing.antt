@@ -1,4 +1,5 @@
--- Packed rows as the code writes them, computed. That these are the grammar's packed rows stands in PackingLaws.
+-- Packed rows as the code writes them, computed. That these are the grammar's packed rows stands in
+-- PackingLaws.
 use mathlib.Core.Path.{_≡_}
 use mathlib.Core.Bool.{_&&_}
 use mathlib.Core.List.{List, [], _∷_, _++_}
@@ -33,7 +34,8 @@ pub record RowsRoom (w h : ℕ) (s out : List ℕ) : Type 0 where
   pub asked : Asked w h s
   pub room : length out ≡ h * rowBytes w
 
--- The bit of column x of the row from the number `from` on: 1 where the sheet has a mark, 0 where it has none and past the row's end.
+-- The bit of column x of the row from the number `from` on: 1 where the sheet has a mark, 0 where
+-- it has none and past the row's end.
 unfoldable pub rockBit : List ℕ → ℕ → ℕ → ℕ → ℕ
 rockBit s from w x = bit (ltb x w && ltb 0 (getD s (from + x) 0))
 

@@ -1,5 +1,5 @@
--- Packing: a column's bit is 1 exactly at a mark, a byte made by doubling has each bit at its place, and piece r of equally long pieces begins at
--- r times their length.
+-- Packing: a column's bit is 1 exactly at a mark, a byte made by doubling has each bit at its
+-- place, and piece r of equally long pieces begins at r times their length.
 use mathlib.Core.Path.{_≡_, _∙_}
 use mathlib.Core.Bool.{Bool, true, false, _&&_}
 use mathlib.Core.List.{List, _++_}

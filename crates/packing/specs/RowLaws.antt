@@ -1,5 +1,5 @@
--- The rows that the code writes are the grammar's packed rows: each bit of a row is the bit of its column, for byte k holds the columns from k * 8 on,
--- and row r stands r rows from the north.
+-- The rows that the code writes are the grammar's packed rows: each bit of a row is the bit of its
+-- column, for byte k holds the columns from k * 8 on, and row r stands r rows from the north.
 use mathlib.Core.Path.{_≡_, refl, sym, ap, _∙_}
 use mathlib.Core.List.{List, [], _∷_}
 use Prim.Native.Nat.{ℕ, _+_, _*_, _-_, _/_, _%_, _^_, _<_}

@@ -1,8 +1,10 @@
-// Packed rows of a map, from a sheet on which the rocks are stamped: "each row is packed eight crossings to a byte, highest bit westmost, 1 a rock".
+// Packed rows of a map, from a sheet on which the rocks are stamped: "each row is packed eight
+// crossings to a byte, highest bit westmost, 1 a rock".
 ghost use mathlib.Core.Path.{_≡_};
 ghost use Rattle.packing.specs.Packing.{RowIn, ByteIn, RowRoom, RowsRoom, rockBit, byteOf, rowOf, rowsOf};
 
-// The bit of column x of a row of w crossings, the first of which has the number `from`: 1 at a rock, 0 at none and past the row's end.
+// The bit of column x of a row of w crossings, the first of which has the number `from`: 1 at a
+// rock, 0 at none and past the row's end.
 fn rock_bit(s: &[u8], from: usize, w: usize, x: usize) -> u8
     requires { ⌜ RowIn (now s) from w ⌝ }
     ensures { λ r. ⌜ r ≡ rockBit (now (s .entry)) from w x ⌝ }
@@ -16,7 +18,8 @@ fn rock_bit(s: &[u8], from: usize, w: usize, x: usize) -> u8
     1
 }
 
-// Eight crossings of a row in a byte, from column x on, the westmost in the highest bit: each bit doubles those before it.
+// Eight crossings of a row in a byte, from column x on, the westmost in the highest bit: each bit
+// doubles those before it.
 fn pack(s: &[u8], from: usize, w: usize, x: usize) -> u8
     requires { ⌜ ByteIn (now s) from w x ⌝ }
     ensures { λ r. ⌜ r ≡ byteOf (now (s .entry)) from w x ⌝ }

@@ -1,4 +1,5 @@
--- The bits of a packed row, column by column, and the packed rows of a raster: each is a part of the bytes, and its bits are the next of the map's.
+-- The bits of a packed row, column by column, and the packed rows of a raster: each is a part of
+-- the bytes, and its bits are the next of the map's.
 use mathlib.Core.Path.{_≡_, refl, ap, _∙_}
 use mathlib.Core.List.{List, [], _∷_, _++_, append-assoc, append-nil}
 use Prim.Native.Nat.{ℕ, zero, suc, _+_, _*_, _-_, _/_, _<_, _≤_}

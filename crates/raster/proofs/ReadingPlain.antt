@@ -1,4 +1,5 @@
--- A P1 raster being read: the bytes passed are blanks and digits 0 and 1, no more digits than crossings, and the digits' bits stand at the front.
+-- A P1 raster being read: the bytes passed are blanks and digits 0 and 1, no more digits than
+-- crossings, and the digits' bits stand at the front.
 use mathlib.Core.Path.{_≡_, refl, sym, ap, subst, _∙_}
 use mathlib.Core.List.{List, [], _∷_, _++_, append-nil}
 use Prim.Native.Nat.{ℕ, _+_, _*_, _-_, _<_, _≤_}

@@ -1,4 +1,5 @@
--- Packed rows being read, row by row: the bits of the rows passed stand at the front, and so many of them are rocks.
+-- Packed rows being read, row by row: the bits of the rows passed stand at the front, and so many
+-- of them are rocks.
 use mathlib.Core.Path.{_≡_, refl, sym, ap, subst, _∙_}
 use mathlib.Core.List.{List, [], _∷_, _++_, append-assoc, append-nil}
 use Prim.Native.Nat.{ℕ, _+_, _*_, _<_, _≤_}

@@ -1,4 +1,5 @@
--- Crossings in raster order: the crossing in column x of the row that stands `row` rows from the north is the (row * w + x)-th.
+-- Crossings in raster order: the crossing in column x of the row that stands `row` rows from the
+-- north is the (row * w + x)-th.
 use mathlib.Core.Path.{_≡_}
 use mathlib.Core.List.{List, [], _∷_, _++_}
 use Prim.Native.Nat.{ℕ, _+_, _*_, _<_}

@@ -1,4 +1,5 @@
--- What each part of reading a raster promises: the bits of its packed rows, and what is found of the whole.
+-- What each part of reading a raster promises: the bits of its packed rows, and what is found of
+-- the whole.
 use mathlib.Core.Path.{_≡_}
 use mathlib.Core.Bool.{Bool, true, false}
 use mathlib.Core.List.{List, [], _∷_, _++_}

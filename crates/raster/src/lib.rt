@@ -1,12 +1,14 @@
-// A map file's raster, P1 or P4, read once: its bits go into lent bytes, one a crossing in raster order, its rocks are counted, and it is refused at the
-// first fault met. Here stands what both formats share.
+// A map file's raster, P1 or P4, read once: its bits go into lent bytes, one a crossing in raster
+// order, its rocks are counted, and it is refused at the first fault met. Here stands what both
+// formats share.
 mod plain;
 mod raw;
 
 ghost use mathlib.Core.Path.{_≡_};
 ghost use Rattle.raster.specs.RasterParts.{withFault, BitRoom, ReadAs, formatOf};
 
-// What reading a raster finds: the number of its first fault, or 0; and how many of its bits are rocks.
+// What reading a raster finds: the number of its first fault, or 0; and how many of its bits are
+// rocks.
 pub struct Judged {
     pub fault: u8,
     pub rocks: usize,

@@ -12,15 +12,17 @@ ghost use Prim.Native.Nat.{ℕ};
 ghost use Rattle.mapfile.specs.File.{plain};
 ghost use Rattle.raster.specs.RasterParts.{BitRoom, ReadAs, BitByte};
 
-// Whether the byte is a digit 0 or 1, in one test: b'0' is 48 and b'1' is 49, and no other byte gives 24 when it is halved.
+// Whether the byte is a digit 0 or 1, in one test: b'0' is 48 and b'1' is 49, and no other byte
+// gives 24 when it is halved.
 fn is_bit(b: u8) -> bool
     ensures { λ r. ⌜ ((r ≡ true) ↔ BitByte b) ⌝ }
 {
     b / 2 == 24
 }
 
-// Reads a P1 raster: "digits 0 and 1, blanks allowed anywhere before, between and after". It stops at the first fault met. Most bytes are digits, so a
-// byte is tried as a digit first, and as a blank only where it is none.
+// Reads a P1 raster: "digits 0 and 1, blanks allowed anywhere before, between and after". It stops
+// at the first fault met. Most bytes are digits, so a byte is tried as a digit first, and as a
+// blank only where it is none.
 pub(crate) fn read_plain(body: &[u8], w: usize, h: usize, bits: &mut [u8]) -> Judged
     requires { ⌜ BitRoom w h (now bits) ⌝ }
     ensures { λ r. ⌜ ReadAs plain w h (now (body .entry)) (now (bits .exit)) r ⌝ }

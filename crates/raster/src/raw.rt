@@ -27,8 +27,8 @@ fn bit_at(row: &[u8], x: usize) -> u8
     (row[x / 8] >> (7 - x % 8)) % 2
 }
 
-// Reads a packed row: the bit of each column, from `at` on. Hands back how many are rocks. "Pad bits at a row's end are ignored": they are not looked
-// at.
+// Reads a packed row: the bit of each column, from `at` on. Hands back how many are rocks. "Pad
+// bits at a row's end are ignored": they are not looked at.
 fn read_row(row: &[u8], w: usize, at: usize, bits: &mut [u8]) -> usize
     requires { ⌜ MayReadRow (now row) w at (now bits) ⌝ }
     ensures { λ r. ⌜ RowRead (now (row .entry)) w at (now (bits .entry)) (now (bits .exit)) r ⌝ }

@@ -1,11 +1,12 @@
--- The first two bytes and the formats' letters: the bytes begin with a format's letters exactly when the first two are the same as those.
-use mathlib.Core.Path.{_≡_, refl, subst}
+-- The first two bytes and the formats' letters: the bytes begin with a format's letters exactly
+-- when the first two are the same as those.
+use mathlib.Core.Path.{_≡_, refl, ap, subst}
 use mathlib.Core.List.{List, [], _∷_}
 use Prim.Native.Nat.{ℕ, _≤_}
 use native.Mathlib.Omega.{arith}
 use lib.ListN.{length, drop}
 use Rattle.mapfile.specs.File.{Format, plain, raw, Letters, lettersOf}
-use Rattle.reader.specs.LettersParts.{SameTwo, LettersRead}
+use Rattle.reader.specs.LettersParts.{SameTwo, lettersNumber, lettersFormat, LettersRead}
 use Rattle.reader.specs.declared.Letters.{Letters as LettersFound}
 use Rattle.reader.specs.declared.Letters.the-variants.{Plain, Raw, Neither}
 
@@ -33,12 +34,24 @@ letters-neither file p q raw rest e = q (letters-same raw file rest e)
 pub letters-long : (f : Format) (file rest : List ℕ) → Letters f file rest → 2 ≤ length file
 letters-long f file rest e = letters-same f file rest e .long
 
+-- The answer of the first two bytes, by its number and format.
+pub names-plain : {file : List ℕ} → Letters plain file (drop 2 file) → LettersRead file Plain
+names-plain {file} l =
+    record { named = λ f e. let same : plain ≡ f = cc in subst (λ (g : Format). Letters g file (drop 2 file)) same l; neither = λ z. absurd (omega arith) }
+
+pub names-raw : {file : List ℕ} → Letters raw file (drop 2 file) → LettersRead file Raw
+names-raw {file} l =
+    record { named = λ f e. let same : raw ≡ f = cc in subst (λ (g : Format). Letters g file (drop 2 file)) same l; neither = λ z. absurd (omega arith) }
+
+pub names-neither : {file : List ℕ} → ((f : Format) (rest : List ℕ) → ¬ Letters f file rest) → LettersRead file Neither
+names-neither n = record { named = λ f e. absurd (let z : _≡_ {A = ℕ} 0 1 = cc in omega arith); neither = λ _. n }
+
 -- The answer of the first two bytes, once it is known to be this one.
 pub letters-plain : (file : List ℕ) (r : LettersFound) → LettersRead file r → r ≡ Plain → Letters plain file (drop 2 file)
-letters-plain file r l e = subst (LettersRead file) e l
+letters-plain file r l e = l .named plain (ap lettersFormat e)
 
 pub letters-raw : (file : List ℕ) (r : LettersFound) → LettersRead file r → r ≡ Raw → Letters raw file (drop 2 file)
-letters-raw file r l e = subst (LettersRead file) e l
+letters-raw file r l e = l .named raw (ap lettersFormat e)
 
 pub letters-none : (file : List ℕ) (r : LettersFound) → LettersRead file r → r ≡ Neither → (f : Format) (rest : List ℕ) → ¬ Letters f file rest
-letters-none file r l e = subst (LettersRead file) e l
+letters-none file r l e = l .neither (ap lettersNumber e)

@@ -1,4 +1,5 @@
--- The reader's parts put together: a raster read and given room is taken; a raster read after letters, header and sides is a file read.
+-- The reader's parts put together: a raster read and given room is taken; a raster read after
+-- letters, header and sides is a file read.
 use mathlib.Core.Path.{_≡_, refl, sym, subst, _∙_}
 use mathlib.Core.List.{List, [], _∷_}
 use mathlib.Core.Logic.{_⊎_, inl, inr}

@@ -1,5 +1,6 @@
--- Reading has one outcome: two answers that the promise allows for the same file and list are equal, and so are a map's bits. A file is one map at most
--- and has one fault at most; with a fault it is no map, and a map's rocks either find a slot each or do not.
+-- Reading has one outcome: two answers that the promise allows for the same file and list are
+-- equal, and so are a map's bits. A file is one map at most and has one fault at most; with a fault
+-- it is no map, and a map's rocks either find a slot each or do not.
 use mathlib.Core.Path.{_≡_, sym, ap, _∙_}
 use mathlib.Core.List.{List}
 use mathlib.Core.Logic.{_⊎_, inl, inr}

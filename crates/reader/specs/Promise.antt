@@ -1,5 +1,5 @@
--- The reader's promise: it accepts exactly the byte strings that the grammar makes a map for whose rocks there is a slot each, with exactly that map,
--- and refuses every other on its occasion.
+-- The reader's promise: it accepts exactly the byte strings that the grammar makes a map for whose
+-- rocks there is a slot each, with exactly that map, and refuses every other on its occasion.
 use mathlib.Core.Path.{_≡_}
 use mathlib.Core.List.{List}
 use mathlib.Core.Logic.{_⊎_}
@@ -16,7 +16,8 @@ abbrev pub readNumber : Reading → ℕ
 readNumber (Map w h count) = success
 readNumber (Refused n) = n
 
--- A map for whose rocks there is a slot each: its bits, in raster order, are the first h × w of the bytes handed back.
+-- A map for whose rocks there is a slot each: its bits, in raster order, are the first h × w of the
+-- bytes handed back.
 pub record Taken (file : List ℕ) (lent w h count : ℕ) (out : List ℕ) : Type 0 where
   pub map : MapFile file w h (take (h * w) out)
   pub counted : count ≡ length (markersOf w h (take (h * w) out))

@@ -1,4 +1,5 @@
--- What the parts of reading promise once a raster is read: its refusal, and the whole of reading it.
+-- What the parts of reading promise once a raster is read: its refusal, and the whole of reading
+-- it.
 use mathlib.Core.Path.{_≡_}
 use mathlib.Core.List.{List}
 use mathlib.Core.Logic.{_⊎_}
@@ -39,7 +40,8 @@ abbrev pub RasterReads : Format → ℕ → ℕ → List ℕ → ℕ → List �
 RasterReads f w h body lent out (Map w′ h′ count) = RasterTaken f w h body lent w′ h′ count out
 RasterReads f w h body lent out (Refused n) = RasterFault f w h body n ⊎ (RasterOver f w h body lent × (n ≡ no-slot))
 
--- What reading the rest of a file asks: that it begins with the format's letters, and a byte for each crossing of the largest map.
+-- What reading the rest of a file asks: that it begins with the format's letters, and a byte for
+-- each crossing of the largest map.
 pub record MayReadMap (f : Format) (src out : List ℕ) : Type 0 where
   pub letters : Letters f src (drop 2 src)
   pub room : side * side ≤ length out

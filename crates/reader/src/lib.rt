@@ -1,5 +1,6 @@
-// The map reader: PBM, plain P1 and raw P4, within document 01's bounds, into lent bytes that hold a bit for each crossing. It goes over the file once, and
-// tells every refusal before anything of the caller's is touched.
+// The map reader: PBM, plain P1 and raw P4, within document 01's bounds, into lent bytes that hold
+// a bit for each crossing. It goes over the file once, and tells every refusal before anything of
+// the caller's is touched.
 use field::MOST_MARKERS;
 use field::refusals::BAD_HEADER;
 use field::refusals::BAD_LETTERS;
@@ -18,7 +19,8 @@ ghost use Rattle.reader.specs.LettersParts.{SameTwo, LettersRead};
 ghost use Rattle.raster.specs.RasterParts.{BitRoom, formatOf};
 ghost use Rattle.reader.specs.ReadingParts.{HasRoom, RasterRefusal, RasterReads, MayReadMap};
 
-// What reading a file finds: a map's width, height and number of rocks; or the number of the refusal.
+// What reading a file finds: a map's width, height and number of rocks; or the number of the
+// refusal.
 pub enum Reading {
     Map(usize, usize, usize),
     Refused(u8),
@@ -117,13 +119,14 @@ fn read_map(src: &[u8], plain: bool, lent: usize, bits: &mut [u8]) -> Reading
     let Head::Sides(w, h, at) = head else {
         return Reading::Refused(BAD_HEADER);
     };
-    if !judging::sized(w, h) {
+    if !sheets::sized(w, h) {
         return Reading::Refused(BAD_SIZE);
     }
     read_raster(plain, &src[at..], w, h, lent, bits)
 }
 
-// Reads a map file, for a list of `lent` slots. Its bits go into lent bytes, in raster order; at a refusal these hold nothing of use.
+// Reads a map file, for a list of `lent` slots. Its bits go into lent bytes, in raster order; at a
+// refusal these hold nothing of use.
 pub fn read(src: &[u8], lent: usize, bits: &mut [u8]) -> Reading
     requires { ⌜ side * side ≤ length (now bits) ⌝ }
     ensures { λ r. ⌜ Reads (now (src .entry)) lent (now (bits .exit)) r ⌝ }

@@ -1,5 +1,6 @@
--- A slot being closed in the list, from the last marker down: each slot takes what stood above it, the last one zeros, until the marker to clear is met.
--- So far, all up to k stand where they stood, all above k have come from one higher, and `above` is what is to go into k.
+-- A slot being closed in the list, from the last marker down: each slot takes what stood above it,
+-- the last one zeros, until the marker to clear is met. So far, all up to k stand where they stood,
+-- all above k have come from one higher, and `above` is what is to go into k.
 use mathlib.Core.Path.{_≡_, refl, sym, ap, _∙_}
 use mathlib.Core.List.{List}
 use Prim.Native.Nat.{ℕ, _+_, _-_, _<_, _≤_}

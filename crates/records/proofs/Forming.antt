@@ -1,5 +1,6 @@
--- A list being looked through, slot by slot: all markers passed are well formed, and `last` is the id of the one before, or 0 at the first. So the
--- next marker must follow `last`: that says both that no id is 0 and that ids rise.
+-- A list being looked through, slot by slot: all markers passed are well formed, and `last` is the
+-- id of the one before, or 0 at the first. So the next marker must follow `last`: that says both
+-- that no id is 0 and that ids rise.
 use mathlib.Core.Path.{_≡_, refl, ap}
 use mathlib.Core.Bool.{true, false}
 use mathlib.Core.List.{List}

@@ -1,5 +1,6 @@
--- A slot being opened in the list, from the count down: as long as the marker below the free slot k does not come before the one to enter, it moves up
--- into k. So far, all below k stand where they stood, and all from k on stand one higher.
+-- A slot being opened in the list, from the count down: as long as the marker below the free slot k
+-- does not come before the one to enter, it moves up into k. So far, all below k stand where they
+-- stood, and all from k on stand one higher.
 use mathlib.Core.Path.{_≡_, refl, sym, ap, _∙_}
 use mathlib.Core.List.{List}
 use Prim.Native.Nat.{ℕ, _+_, _-_, _<_, _≤_}
@@ -63,7 +64,8 @@ opening-more {s} {t} {count} {id} {k} room pos high o =
     over j l u (yes e) = omega (arith, high, ap (λ (n : Marker). n .id) was, ap (λ (i : ℕ). slot s i .id) (last j e))
     over j l u (no e) = o .higher j (omega arith) u
 
--- The marker below k comes before the one to enter, or there is none: k is its place, and it is put there.
+-- The marker below k comes before the one to enter, or there is none: k is its place, and it is put
+-- there.
 pub opening-end : {s t : List Marker} {count k : ℕ} (m : Marker) → MayEnter s count m → (0 < k → slot t (k - 1) .id < m .id) → Opening s count (m .id) k t
     → Enters s count m (set t k m) (count + 1)
 opening-end {s} {t} {count} {k} m may low o =

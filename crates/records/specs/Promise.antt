@@ -1,14 +1,15 @@
 -- Promises over a lent list of marker records with its count, in the words of the list's meanings.
 use mathlib.Core.Path.{_≡_}
 use mathlib.Core.List.{List}
-use Prim.Native.Nat.{ℕ, _+_, _*_, _<_, _≤_}
+use Prim.Native.Nat.{ℕ, _*_, _<_, _≤_}
 use lib.ListN.{length, getD}
 use Rattle.field.specs.declared.Marker.{Marker}
 use Rattle.field.specs.Map.{Sides}
 use Rattle.field.specs.Labels.{Rock, RockOn}
 use Rattle.field.specs.Workings.Sheet.{Draws}
-use Rattle.markers.specs.List.{slot, WellFormed, InUse, Entered, Cleared, inUse}
+use Rattle.markers.specs.List.{slot, WellFormed, InUse, inUse}
 use Rattle.markers.specs.Promise.{Rising}
+pub use Rattle.markers.specs.Promise.{Enters, Clears}
 
 -- Where the id stands or belongs: every marker before has a lower id, none from there on has.
 pub record Place (list : List Marker) (count id r : ℕ) : Type 0 where
@@ -27,22 +28,14 @@ pub record MayClear (list : List Marker) (count id : ℕ) : Type 0 where
   pub rising : Rising list count
   pub used : InUse list count id
 
--- What entering and clearing make of the list, and the new count.
-pub record Enters (before : List Marker) (count : ℕ) (m : Marker) (after : List Marker) (r : ℕ) : Type 0 where
-  pub list : Entered before count m after
-  pub counted : r ≡ count + 1
-
-pub record Clears (before : List Marker) (count id : ℕ) (after : List Marker) (r : ℕ) : Type 0 where
-  pub list : Cleared before count id after
-  pub counted : r + 1 ≡ count
-
 -- What stamping asks: a well-formed list and a sheet of the map's size.
 pub record MayStamp (w h : ℕ) (list : List Marker) (count : ℕ) (sheet : List ℕ) : Type 0 where
   pub sides : Sides w h
   pub formed : WellFormed w h list count
   pub size : length sheet ≡ h * w
 
--- The sheet stamped: 1 on each crossing with a marker in use, however many stand on it, and 0 elsewhere.
+-- The sheet stamped: 1 on each crossing with a marker in use, however many stand on it, and 0
+-- elsewhere.
 pub record StampedWith (w h : ℕ) (list : List Marker) (count : ℕ) (sheet : List ℕ) : Type 0 where
   pub size : length sheet ≡ h * w
   pub ones : (i : ℕ) → getD sheet i 0 ≤ 1

@@ -9,7 +9,8 @@ pub record Few (count lent : ℕ) : Type 0 where
   pub most : count ≤ most-markers
   pub within : count ≤ lent
 
--- The marker may follow one with the id `last`, or come first where `last` is 0: so no id is 0, and ids rise.
+-- The marker may follow one with the id `last`, or come first where `last` is 0: so no id is 0, and
+-- ids rise.
 pub record Follows (last : ℕ) (m : Marker) (w h : ℕ) : Type 0 where
   pub higher : last < m .id
   pub on : On w h (m .x) (m .y)

@@ -1,5 +1,5 @@
-// The caller's list of marker records, lent with a count of those in use. Every function here looks along the list itself; what it thinks of one
-// record stands in a function on the record by value.
+// The caller's list of marker records, lent with a count of those in use. Every function here looks
+// along the list itself; what it thinks of one record stands in a function on the record by value.
 use field::MOST_MARKERS;
 use field::Marker;
 ghost use mathlib.Core.Path.{_≡_};
@@ -23,7 +23,8 @@ fn few(count: usize, lent: usize) -> bool
     count <= lent
 }
 
-// Whether a marker may come next after one with the id `last`, or first after 0: a higher id, and a crossing of the map.
+// Whether a marker may come next after one with the id `last`, or first after 0: a higher id, and a
+// crossing of the map.
 fn follows(last: u16, m: Marker, w: usize, h: usize) -> bool
     ensures { λ r. ⌜ ((r ≡ true) ↔ Follows last m w h) ⌝ }
 {
@@ -36,7 +37,8 @@ fn follows(last: u16, m: Marker, w: usize, h: usize) -> bool
     (m.y as usize) < h
 }
 
-// Whether the list is well formed on a map of this width and height: count within its limits, ids from 1 rising, every marker on the map.
+// Whether the list is well formed on a map of this width and height: count within its limits, ids
+// from 1 rising, every marker on the map.
 pub fn well_formed(list: &[Marker], count: usize, w: usize, h: usize) -> bool
     ensures { λ r. ⌜ ((r ≡ true) ↔ WellFormed w h (now (list .entry)) count) ⌝ }
 {

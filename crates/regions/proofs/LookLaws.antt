@@ -28,7 +28,8 @@ lit-on g w h x y o = simp (lt-ltb x w (o .in-x), lt-ltb y h (o .in-y)) (bit-test
     bit-test true = refl
     bit-test false = refl
 
--- The tests for a mark one hop along the row, and along the column, tell that there is such a hop and that it leads to a mark.
+-- The tests for a mark one hop along the row, and along the column, tell that there is such a hop
+-- and that it leads to a mark.
 marked-test : (g : List ℕ) (w h a b : ℕ) → Marked g w h a b ↔ ltb 0 (lit g w h a b) ≡ true
 marked-test g w h a b = (λ m. lt-ltb 0 (lit g w h a b) (omega (arith, marked-lit g w h a b m)), λ e. lit-marked g w h a b (ltb-true _ _ e))
 

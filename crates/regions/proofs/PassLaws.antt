@@ -1,5 +1,6 @@
--- Laws of passes. A pass over one part and then over another is a pass over both, where the first part has no crossing of the second and no hop
--- from it towards the pass's end leads into the second: what the first part has settled then stays.
+-- Laws of passes. A pass over one part and then over another is a pass over both, where the first
+-- part has no crossing of the second and no hop from it towards the pass's end leads into the
+-- second: what the first part has settled then stays.
 use mathlib.Core.Path.{_≡_, refl, sym, ap, _∙_}
 use mathlib.Core.Bool.{Bool, false, cond, _&&_, and-false}
 use mathlib.Core.List.{List}

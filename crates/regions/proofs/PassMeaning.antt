@@ -1,5 +1,6 @@
--- What a pass from e means. Each crossing of its rectangle is allowed or not, and the sheet then marks the allowed ones that have a shortest
--- drive to e: by the first hop of such a drive, and by induction on the distance.
+-- What a pass from e means. Each crossing of its rectangle is allowed or not, and the sheet then
+-- marks the allowed ones that have a shortest drive to e: by the first hop of such a drive, and by
+-- induction on the distance.
 use mathlib.Core.Path.{_≡_, refl, sym, ap, _∙_}
 use mathlib.Core.Bool.{Bool, true, false, cond, _&&_, _||_, true≢false}
 use mathlib.Core.List.{List}
@@ -53,7 +54,8 @@ pub spanned-toward : {ex ey fx fy x y a b : ℕ} → Spanned ex ey fx fy x y →
 spanned-toward s (along-row n p q) = record { across = rw p (way-turned (way-hop (way-turned (s .across)) n)); along = rw q (s .along) }
 spanned-toward s (along-column n p q) = record { across = rw p (s .across); along = rw q (way-turned (way-hop (way-turned (s .along)) n)) }
 
--- A says which crossings of the rectangle are allowed: they are open, and on the way to e a shortest drive keeps to them.
+-- A says which crossings of the rectangle are allowed: they are open, and on the way to e a
+-- shortest drive keeps to them.
 module _ (w h : ℕ) (C : ℕ → ℕ → Type 0) (ex ey fx fy : ℕ) (A : ℕ → ℕ → Type 0) (is-open : (x y : ℕ) → A x y → Open w h C x y)
     (carries : (x y a b : ℕ) → Spanned ex ey fx fy x y → A x y → Toward ex ey x y a b → HasDrive w h C a b ex ey → A a b) where
   -- At (x, y) stands 1 if it is allowed and has a shortest drive to e, and else 0.
@@ -63,7 +65,8 @@ module _ (w h : ℕ) (C : ℕ → ℕ → Type 0) (ex ey fx fy : ℕ) (A : ℕ �
   abbrev Nearer : List ℕ → ℕ → ℕ → Type 0
   Nearer g x y = (a b : ℕ) → dist a b ex ey + 1 ≡ dist x y ex ey → On w h a b → Spanned ex ey fx fy a b → Right g a b
 
-  -- A backed crossing that is allowed has such a drive, and one that has such a drive is backed, if all is right one hop nearer e.
+  -- A backed crossing that is allowed has such a drive, and one that has such a drive is backed, if
+  -- all is right one hop nearer e.
   right-mark : (g : List ℕ) {a b : ℕ} → Right g a b → 0 < at g w a b → HasDrive w h C a b ex ey
   right-mark g (is-in e r) l = r .1
   right-mark g (is-out e n) l = absurd (omega arith)

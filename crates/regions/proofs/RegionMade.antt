@@ -1,5 +1,6 @@
--- The two passes make the region sheet. The pass from s marks what is open and has a shortest drive to s; the pass from d keeps of that what has
--- one to d as well; and in the rectangle that s and d span the two together are no detour.
+-- The two passes make the region sheet. The pass from s marks what is open and has a shortest drive
+-- to s; the pass from d keeps of that what has one to d as well; and in the rectangle that s and d
+-- span the two together are no detour.
 use mathlib.Core.Path.{_≡_, sym, _∙_}
 use mathlib.Core.List.{List}
 use Prim.Native.Nat.{ℕ, _+_, _*_, _<_}
@@ -102,10 +103,11 @@ module _ (w h : ℕ) (s : List ℕ) (sx sy dx dy : ℕ) where
         go x y o (yes k) = inside x y o k
         go x y o (no n) = outside x y o n
 
--- The tests of the ends, i being an end's number: it is closed if something else than 0 stands there, and else open.
+-- The tests of the ends, i being an end's number: it is closed if something else than 0 stands
+-- there, and else open.
 module _ {w h x y i : ℕ} (s : List ℕ) (o : On w h x y) (is : i ≡ number w x y) where
-  pub end-closed : ¬ (getD s i 0 ≡ 0) → ¬ Open w h (Marked s w h) x y
-  end-closed n k = k .free (record { on = o; mark = rw (← is) (pos n) })
+  pub end-closed : ¬ (getD s i 0 ≡ 0) → Marked s w h x y
+  end-closed n = record { on = o; mark = rw (← is) (pos n) }
     where
       pos : {v : ℕ} → ¬ (v ≡ 0) → 0 < v
       pos m = omega arith

@@ -1,5 +1,6 @@
--- How a pass walks over its rectangle: in a row column by column, and row by row, each farther from the pass's end than the one before. A hop
--- towards the end never leads farther from it, so what is passed is settled for good.
+-- How a pass walks over its rectangle: in a row column by column, and row by row, each farther from
+-- the pass's end than the one before. A hop towards the end never leads farther from it, so what is
+-- passed is settled for good.
 use mathlib.Core.Path.{_≡_, refl, ap, _∙_}
 use mathlib.Core.Bool.{cond}
 use mathlib.Core.List.{List}
@@ -11,7 +12,7 @@ use lib.ListN.{set}
 use Rattle.field.specs.Map.{On, number, at, gap}
 use Rattle.field.specs.Workings.Looking.{hopTo}
 use Rattle.field.specs.Workings.GridLaws.{Toward, along-row, along-column, gap-none}
-use Rattle.regions.specs.Promise.{Asked}
+use Rattle.regions.specs.Promise.{RegionAsked}
 use Rattle.regions.specs.Passes.{Looked, OnWay, InRow, Spanned, backed, Pass}
 use Rattle.regions.proofs.WayLaws.{way-start, way-lt, way-one, way-hop, way-farther, back-nearer}
 use Rattle.regions.proofs.PassLaws.{Follows, pass-none, pass-one, pass-over, pass-from, pass-then}
@@ -28,7 +29,8 @@ pub record RowsTo (ex ey fx fy k a b : ℕ) : Type 0 where
   pub along : OnWay ey fy b
   pub behind : gap ey b < k
 
--- A pass in row y that has come to column x, which is still to be passed; and a pass that has come to row y. g was there first, g′ is there now.
+-- A pass in row y that has come to column x, which is still to be passed; and a pass that has come
+-- to row y. g was there first, g′ is there now.
 pub record InRowAt (w h ex ey fx y : ℕ) (v : ℕ → ℕ → ℕ) (g g′ : List ℕ) (x : ℕ) : Type 0 where
   pub across : OnWay ex fx x
   pub done : Pass w h ex ey (RowTo ex fx (gap ex x) y) v g g′
@@ -38,7 +40,7 @@ pub record AtRow (w h ex ey fx fy : ℕ) (v : ℕ → ℕ → ℕ) (g g′ : Lis
   pub done : Pass w h ex ey (RowsTo ex ey fx fy (gap ey y)) v g g′
 
 -- A call over two sheets is also one over the region sheet alone.
-pub asked-looked : {w h ex ey fx fy : ℕ} {s g : List ℕ} → Asked w h s g ex ey fx fy → Looked w h g ex ey fx fy
+pub asked-looked : {w h ex ey fx fy : ℕ} {s g : List ℕ} → RegionAsked w h s g ex ey fx fy → Looked w h g ex ey fx fy
 asked-looked k = record { sides = k .sides; size = k .region; from = k .from; to = k .to }
 
 -- A hop towards an end brings neither offset up.

@@ -1,5 +1,6 @@
--- Laws of one axis: hops towards an end, and the coordinates on the way between two ends. A coordinate on the way is fixed by how far it is from
--- the start, and a hop towards the end brings it one farther.
+-- Laws of one axis: hops towards an end, and the coordinates on the way between two ends. A
+-- coordinate on the way is fixed by how far it is from the start, and a hop towards the end brings
+-- it one farther.
 use mathlib.Core.Path.{_≡_, refl, ap}
 use Prim.Native.Nat.{ℕ, _+_, _<_, _≤_}
 use native.Mathlib.Omega.{arith}

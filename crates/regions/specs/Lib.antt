@@ -1,5 +1,5 @@
--- What the code for regions promises. A reader must believe Promise; Passes says what the functions inside do, and Outcome shows that the promise
--- leaves one outcome.
+-- What the code for regions promises. A reader must believe Promise; Passes says what the functions
+-- inside do, and Outcome shows that the promise leaves one outcome.
 pub mod Promise
 pub mod Passes
 pub mod Outcome

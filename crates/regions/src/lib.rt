@@ -2,7 +2,7 @@
 pub mod looks; // looks.rt: looks at a sheet of marks
 mod passes; // passes.rt: the two passes that make the region
 
-ghost use Rattle.regions.specs.Promise.{Asked, Regioned};
+ghost use Rattle.regions.specs.Promise.{RegionAsked, Regioned};
 
 // What asking for the region finds: an end closed (8), no shortest drive (9), or some.
 pub enum Found {
@@ -11,9 +11,10 @@ pub enum Found {
     Somewhere,
 }
 
-// The region from (sx, sy) to (dx, dy) into a lent sheet, which is its own working memory. A pass from s marks what a shortest drive from s
-// reaches inside the rectangle that s and d span; a pass from d then keeps what also reaches d. With an end closed the sheet stays as it was;
-// with no shortest drive it ends all 0, and then s itself has no mark.
+// The region from (sx, sy) to (dx, dy) into a lent sheet, which is its own working memory. A pass
+// from s marks what a shortest drive from s reaches inside the rectangle that s and d span; a pass
+// from d then keeps what also reaches d. With an end closed the sheet stays as it was; with no
+// shortest drive it ends all 0, and then s itself has no mark.
 pub fn region(
     s: &[u8],
     w: usize,
@@ -24,7 +25,7 @@ pub fn region(
     dy: usize,
     g: &mut [u8],
 ) -> Found
-    requires { ⌜ Asked w h (now s) (now g) sx sy dx dy ⌝ }
+    requires { ⌜ RegionAsked w h (now s) (now g) sx sy dx dy ⌝ }
     ensures { λ r. ⌜ Regioned w h (now (s .entry)) sx sy dx dy (now (g .entry)) (now (g .exit)) r ⌝ }
 {
     let i = sheets::number_of(w, h, sx, sy);

@@ -1,10 +1,11 @@
-// The two passes that make the region. Each walks over the rectangle that the two ends span: row by row from its own end's row to the other's,
-// and in each row from its own end's column to the other's, so that the neighbours one hop nearer its end are always behind it.
+// The two passes that make the region. Each walks over the rectangle that the two ends span: row by
+// row from its own end's row to the other's, and in each row from its own end's column to the
+// other's, so that the neighbours one hop nearer its end are always behind it.
 ghost use mathlib.Core.Path.{_≡_};
 ghost use mathlib.Core.Bool.{cond};
 ghost use lib.ListN.{set};
 ghost use Rattle.field.specs.Map.{number, at};
-ghost use Rattle.regions.specs.Promise.{Asked};
+ghost use Rattle.regions.specs.Promise.{RegionAsked};
 ghost use Rattle.regions.specs.Passes.{Looked, InRow, Spanned, backed, Pass, free};
 use super::looks::has_back;
 use sheets::hop;
@@ -37,7 +38,7 @@ fn free_at(s: &[u8], w: usize, h: usize, x: usize, y: usize) -> u8
 
 // The pass from s in row y: a mark at every open crossing that is backed.
 fn spread_row(s: &[u8], w: usize, h: usize, ex: usize, ey: usize, fx: usize, y: usize, g: &mut [u8])
-    requires { ⌜ Asked w h (now s) (now g) ex ey fx y ⌝ }
+    requires { ⌜ RegionAsked w h (now s) (now g) ex ey fx y ⌝ }
     ensures { λ _. ⌜ Pass w h ex ey (InRow ex fx y) (free (now (s .entry)) w) (now (g .entry)) (now (g .exit)) ⌝ }
 {
     let mut x = ex;
@@ -61,7 +62,7 @@ pub fn spread(
     fy: usize,
     g: &mut [u8],
 )
-    requires { ⌜ Asked w h (now s) (now g) ex ey fx fy ⌝ }
+    requires { ⌜ RegionAsked w h (now s) (now g) ex ey fx fy ⌝ }
     ensures { λ _. ⌜ Pass w h ex ey (Spanned ex ey fx fy) (free (now (s .entry)) w) (now (g .entry)) (now (g .exit)) ⌝ }
 {
     let mut y = ey;

@@ -1,4 +1,5 @@
--- A sheet being wiped, from its front: all bytes passed are zero. Past the end of a list there is nothing but the default, zero.
+-- A sheet being wiped, from its front: all bytes passed are zero. Past the end of a list there is
+-- nothing but the default, zero.
 use mathlib.Core.Path.{_≡_, refl, ap, _∙_}
 use mathlib.Core.List.{List}
 use Prim.Native.Nat.{ℕ, _+_, _<_, _≤_}

@@ -15,7 +15,8 @@ pub record Asked (w h : ℕ) (s : List ℕ) (x y : ℕ) : Type 0 where
   pub fits : Fits w h s
   pub on : On w h x y
 
--- A crossing of a map within the limits, and its number: it is below the map's size, and sixteen bits hold it.
+-- A crossing of a map within the limits, and its number: it is below the map's size, and sixteen
+-- bits hold it.
 pub record Placed (w h x y : ℕ) : Type 0 where
   pub sides : Sides w h
   pub on : On w h x y

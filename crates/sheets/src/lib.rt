@@ -1,9 +1,28 @@
-// What is done with a sheet of any kind: a crossing's number, the byte that stands there, all bytes wiped; and one hop along an axis.
+// What is done with a sheet of any kind: whether its map's size is within the limits, a crossing's
+// number, the byte that stands there, all bytes wiped; and one hop along an axis.
+use field::SIDE;
 ghost use mathlib.Core.Path.{_≡_};
-ghost use mathlib.Core.Logic.{_≢_};
-ghost use Rattle.field.specs.Map.{at};
+ghost use mathlib.Core.Bool.{true};
+ghost use mathlib.Core.Logic.{_≢_, _↔_};
+ghost use Rattle.field.specs.Map.{Sides, at};
 ghost use Rattle.field.specs.Workings.Looking.{hopTo};
 ghost use Rattle.sheets.specs.Promise.{Placed, Numbered, Asked, Wiped};
+
+// "Width and height: 1 to 64 each."
+pub fn sized(w: usize, h: usize) -> bool
+    ensures { λ r. ⌜ ((r ≡ true) ↔ Sides w h) ⌝ }
+{
+    if w == 0 {
+        return false;
+    }
+    if h == 0 {
+        return false;
+    }
+    if SIDE < w {
+        return false;
+    }
+    h <= SIDE
+}
 
 // "Its number is y × width + x."
 pub fn number_of(w: usize, h: usize, x: usize, y: usize) -> usize

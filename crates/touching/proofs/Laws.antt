@@ -1,4 +1,5 @@
--- What the steps of looking around come to: what is written (Bytes, Notes), and that there is room for it (Rooms).
+-- What the steps of looking around come to: what is written (Bytes, Notes), and that there is room
+-- for it (Rooms).
 pub mod Bytes
 pub mod Notes
 pub mod Rooms

@@ -1,5 +1,6 @@
--- What looking around a crossing does, touch by touch: each function's promise is a step from a sheet s and a stack with k crossings on it to a
--- sheet t and a stack `after` with r. What the steps come to is shown of these definitions alone.
+-- What looking around a crossing does, touch by touch: each function's promise is a step from a
+-- sheet s and a stack with k crossings on it to a sheet t and a stack `after` with r. What the
+-- steps come to is shown of these definitions alone.
 use mathlib.Core.Path.{_≡_}
 use mathlib.Core.List.{List}
 use mathlib.Core.Logic.{_⊎_}
@@ -14,15 +15,17 @@ pub record Touching (w x y : ℕ) (s stack : List ℕ) (k : ℕ) : Type 0 where
   pub in-sheet : number w x y < length s
   pub room : Free (at s w x y) → k < length stack
 
--- Touching (x, y) with the note n. An open crossing that has no note gets it. One that has another note is shut, and goes on the stack: two of
--- its neighbours are closed. A closed one stays, and so does one that has this very note.
+-- Touching (x, y) with the note n. An open crossing that has no note gets it. One that has another
+-- note is shut, and goes on the stack: two of its neighbours are closed. A closed one stays, and so
+-- does one that has this very note.
 pub data Touched (w x y n : ℕ) (s t stack after : List ℕ) (k r : ℕ) : Type 0 where
   noted : at s w x y ≡ 0 → t ≡ set s (number w x y) n → after ≡ stack → r ≡ k → Touched w x y n s t stack after k r
   shut : 2 < at s w x y → (at s w x y ≡ n → ⊥) → t ≡ set s (number w x y) 2 → after ≡ set stack k (packed x y) → r ≡ k + 1
       → Touched w x y n s t stack after k r
   kept : Shown (at s w x y) ⊎ (at s w x y ≡ n) → t ≡ s → after ≡ stack → r ≡ k → Touched w x y n s t stack after k r
 
--- (x, y) can be looked around: the crossings on the stack and those that are open so far are no more than the stack has room for.
+-- (x, y) can be looked around: the crossings on the stack and those that are open so far are no
+-- more than the stack has room for.
 pub record Looking (w h x y : ℕ) (s stack : List ℕ) (k : ℕ) : Type 0 where
   pub sides : Sides w h
   pub on : On w h x y
@@ -30,8 +33,8 @@ pub record Looking (w h x y : ℕ) (s stack : List ℕ) (k : ℕ) : Type 0 where
   pub fits : k + freeTo s (h * w) ≤ h * w
   pub deep : h * w ≤ length stack
 
--- One look from (x, y), in the direction d, which is told as a note tells it; n is the note that tells the way back. Where the map ends there,
--- nothing happens.
+-- One look from (x, y), in the direction d, which is told as a note tells it; n is the note that
+-- tells the way back. Where the map ends there, nothing happens.
 pub data Step (w h d n x y : ℕ) (s t stack after : List ℕ) (k r : ℕ) : Type 0 where
   edge : ((a b : ℕ) → On w h a b → Noted d x y a b → ⊥) → t ≡ s → after ≡ stack → r ≡ k → Step w h d n x y s t stack after k r
   beside : {a b : ℕ} → On w h a b → Noted d x y a b → Noted n a b x y → Touched w a b n s t stack after k r → Step w h d n x y s t stack after k r

@@ -1,6 +1,8 @@
--- What a sheet and the stack hold while crossings are closed. A byte is 0 or a note where the crossing is open so far, 1 at a rock, 2 where it is
--- shut. A note, 3 to 6, tells in which direction the one closed neighbour stands that has been looked around already: east, south, west, north.
--- So a second closed neighbour is told from the first by its direction, and nothing has to be counted.
+-- What a sheet and the stack hold while crossings are closed. A byte is 0 or a note where the
+-- crossing is open so far, 1 at a rock, 2 where it is shut. A note, 3 to 6, tells in which
+-- direction the one closed neighbour stands that has been looked around already: east, south, west,
+-- north. So a second closed neighbour is told from the first by its direction, and nothing has to
+-- be counted.
 use mathlib.Core.Path.{_≡_}
 use mathlib.Core.List.{List}
 use mathlib.Core.Logic.{_⊎_}

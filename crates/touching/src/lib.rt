@@ -1,5 +1,6 @@
-// Looking around a closed crossing. A crossing that is open so far keeps a note of the one closed neighbour that was looked around; a second one, told from
-// it by its direction, shuts it and puts it on the stack.
+// Looking around a closed crossing. A crossing that is open so far keeps a note of the one closed
+// neighbour that was looked around; a second one, told from it by its direction, shuts it and puts
+// it on the stack.
 ghost use mathlib.Core.Path.{_≡_};
 ghost use Rattle.touching.specs.Work.{toEast, toSouth, toWest, toNorth, packed, Packs};
 ghost use Rattle.touching.specs.Steps.{Touching, Touched, Looking, Step, Looked};
@@ -21,8 +22,9 @@ pub fn pack(x: usize, y: usize) -> u16
     (y * 256 + x) as u16
 }
 
-// The crossing (x, y) has a closed neighbour in the direction that `note` tells. Notes it, or shuts the crossing and puts it on the stack where
-// another neighbour was noted before. Hands back the stack's height.
+// The crossing (x, y) has a closed neighbour in the direction that `note` tells. Notes it, or shuts
+// the crossing and puts it on the stack where another neighbour was noted before. Hands back the
+// stack's height.
 fn touch(s: &mut [u8], w: usize, x: usize, y: usize, note: u8, stack: &mut [u16], k: usize) -> usize
     requires { ⌜ Touching w x y (now s) (now stack) k ⌝ }
     ensures { λ r. ⌜ Touched w x y note (now (s .entry)) (now (s .exit)) (now (stack .entry)) (now (stack .exit)) k r ⌝ }
@@ -44,8 +46,8 @@ fn touch(s: &mut [u8], w: usize, x: usize, y: usize, note: u8, stack: &mut [u16]
     k + 1
 }
 
-// Touches the neighbour of the closed crossing (x, y) on each side, where the map has one. All four are told the whole map, so that one promise
-// says what they do.
+// Touches the neighbour of the closed crossing (x, y) on each side, where the map has one. All four
+// are told the whole map, so that one promise says what they do.
 fn touch_east(
     s: &mut [u8],
     w: usize,
@@ -118,7 +120,8 @@ fn touch_north(
     k
 }
 
-// Looks around the closed crossing (x, y): each neighbour gets to know of it. Hands back the stack's height.
+// Looks around the closed crossing (x, y): each neighbour gets to know of it. Hands back the
+// stack's height.
 pub fn look_around(
     s: &mut [u8],
     w: usize,

@@ -12,7 +12,8 @@ pub record RowBits (w : ℕ) (bits part : List ℕ) : Type 0 where
   pub whole : w ≤ length bits
   pub room : length part ≡ w
 
--- What turning asks: a bit for each crossing, 0 or 1, and a sheet of the map's size. What follows those bits is not looked at.
+-- What turning asks: a bit for each crossing, 0 or 1, and a sheet of the map's size. What follows
+-- those bits is not looked at.
 pub record MayTurn (w h : ℕ) (bits sheet : List ℕ) : Type 0 where
   pub sides : Sides w h
   pub whole : h * w ≤ length bits

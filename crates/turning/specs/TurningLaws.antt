@@ -1,4 +1,5 @@
--- The rows of a raster, the southmost first, are the sheet stamped with its rocks: the bit of a crossing stands as far along its row.
+-- The rows of a raster, the southmost first, are the sheet stamped with its rocks: the bit of a
+-- crossing stands as far along its row.
 use mathlib.Core.Path.{_≡_, ap, _∙_}
 use mathlib.Core.List.{List}
 use Prim.Native.Nat.{ℕ, _+_, _*_, _-_, _<_, _≤_}

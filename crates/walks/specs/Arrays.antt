@@ -1,5 +1,5 @@
--- A local array of numbers, in a walk. Made of zeros, it is a row of elements, which can be lent as a slice, whole or in part. In the end the row is the
--- local's room again.
+-- A local array of numbers, in a walk. Made of zeros, it is a row of elements, which can be lent as
+-- a slice, whole or in part. In the end the row is the local's room again.
 use mathlib.Core.Path.{_≡_, refl, sym, subst}
 use mathlib.Core.List.{List, [], _∷_, _++_}
 use Prim.Native.Nat.{ℕ, zero, suc, _+_, _<_, _^_}
@@ -32,7 +32,8 @@ pub lit-big : {M : Type 1} {𝓤 : URA M} {H : Heap 𝓤} {A : Atoms 𝓤} {K : 
     → Fits w n → Opd K W Γ E (intBig w n) (vint w n)
 lit-big {𝓤 = 𝓤} t {w} {n} f = record { go = λ Kt h. via 𝓤 (Kt (vint w n)) h (guardI 𝓤 (Fits w n) (Kt (vint w n)) f) }
 
--- The zeros of which an array is made, and its machine value. A long list of them is never written out.
+-- The zeros of which an array is made, and its machine value. A long list of them is never written
+-- out.
 pub zeros : ℕ → List ℕ
 zeros n = replicate n 0
 
@@ -55,7 +56,8 @@ module _ {M : Type 1} (𝓤 : URA M) (H : Heap 𝓤) (A : Atoms 𝓤) (W : Given
   zeros-typed : 0 < 2 ^ bits w → T (hasTy (tyArray (tyInt w) n) (zeroed w n)) × WT (zeroed w n)
   zeros-typed f = array-typed (UInt w) (uint-lawful 𝓤 H A W w .typed) n (zeros n) (zeroed w n ∷ []) (zeros-are w f n) .0
 
-  -- An array that is written whole lies in memory as its elements do, and elements that lie so are the array's room.
+  -- An array that is written whole lies in memory as its elements do, and elements that lie so are
+  -- the array's room.
   lays-out : ent 𝓤 (sep 𝓤 (sem 𝓤 H A (fat fullShare (tyArray (tyInt w) n) b 0 (zeroed w n))) (sem 𝓤 H A (Array (UInt w) n .own (zeros n) (zeroed w n ∷ []))))
       (sem 𝓤 H A (row (UInt w) fullShare (zeros n) b 0))
   unfolding partOf
@@ -93,7 +95,8 @@ module _ {M : Type 1} (𝓤 : URA M) (H : Heap 𝓤) (A : Atoms 𝓤) (W : Given
       (monoR 𝓤 (sem 𝓤 H A (partAt R fullShare x b o)) (joined xs ys (o + mem R .size)))
 
 module _ {M : Type 1} {𝓤 : URA M} {H : Heap 𝓤} {A : Atoms 𝓤} {K : Type 0} {W : Given 𝓤 H A} {Γ : List (Item 𝓤)} where
-  -- A local is made an array of n zeros. Its room stands at the head of the context, and the row in its place.
+  -- A local is made an array of n zeros. Its room stands at the head of the context, and the row in
+  -- its place.
   pub makes-array : {E : Env 𝓤 H} {C : Calls 𝓤 H} {Λ : Loops 𝓤 H} {z : Post 𝓤 H} {i b : ℕ} {rest : Body} → K → (w : Width) (n : ℕ) → T (ltb 0 (2 ^ bits w))
       → spotOf 𝓤 H E i ≡ (tyArray (tyInt w) n, b, 0)
       → Step K W (‵ (row (UInt w) fullShare (zeros n) b 0) ∷ Γ) (runs C Λ E rest z) (‵ (froom (tyArray (tyInt w) n) b 0) ∷ Γ) (runs C Λ E (seq (assign (place i []) (repeat (int w 0) n)) rest) z)

@@ -1,5 +1,7 @@
--- The locals of a function that is walked. The context has one entry for each, in their order, and after them one entry for the blocks in which they
--- lie. So where k entries stand before them, local n is entry k + n. They are made, and the arguments stored, in one step, and freed in one step.
+-- The locals of a function that is walked. The context has one entry for each, in their order, and
+-- after them one entry for the blocks in which they lie. So where k entries stand before them,
+-- local n is entry k + n. They are made, and the arguments stored, in one step, and freed in one
+-- step.
 use mathlib.Core.List.{List, [], _∷_, _++_}
 use mathlib.Core.Option.{Option, none, some}
 use Prim.Native.Nat.{ℕ}
@@ -12,17 +14,18 @@ use base.Logic.{SProp, ent, sep, wand, emp, id⊢, via, monoL, monoR, fst∗, sn
 use base.Fml.{fat, froom}
 use prog.Wp.{Heap, Env, Calls, Loops, WpFn, tyOf, alloc, params, pass, release}
 use ghost.Atoms.{Atoms}
-use types.Kit.{Given, Item, ‵, raw, _⊛_, mean, ⋆, pop, push, ⊢++, Goal, Seq, prop, runs, atRet, frees, aim, _$_, _∵_, !, qed, by, move, use1, split, join, check, assume, frame}
+use types.Kit.{Given, Item, ‵, raw, _⊛_, mean, ⋆, pop, push, ++⊢, ⊢++, Goal, Seq, prop, runs, atRet, frees, aim, _$_, _∵_, !, qed, by, move, use1, split, join, check, assume, frame}
 
--- What is known of the locals: the value of each, or none where it has none or it no longer matters.
+-- What is known of the locals: the value of each, or none where it has none or it no longer
+-- matters.
 abbrev pub Known : Type 0
 Known = List (Option Val)
 
-abbrev first : Known → Option Val
+abbrev pub first : Known → Option Val
 first [] = none
 first (v ∷ vs) = v
 
-abbrev rest : Known → Known
+abbrev pub rest : Known → Known
 rest [] = []
 rest (v ∷ vs) = vs
 
@@ -36,7 +39,8 @@ Blocks [] = Unit {0}
 Blocks (l ∷ ls) = ℕ × Blocks ls
 
 module _ {M : Type 1} (𝓤 : URA M) (H : Heap 𝓤) where
-  -- The arguments have the types of the locals in which they are stored. The first local is the result, and the arguments come after it.
+  -- The arguments have the types of the locals in which they are stored. The first local is the
+  -- result, and the arguments come after it.
   abbrev Stored : List Local → List Val → Type 0
   Stored ls [] = Unit {0}
   Stored [] (v ∷ vs) = ⊥
@@ -55,11 +59,11 @@ module _ {M : Type 1} (𝓤 : URA M) (H : Heap 𝓤) where
   dying (e ∷ E) = sep 𝓤 (H .dies (e .0) (e .1)) (dying E)
 
   module _ (A : Atoms 𝓤) where
-    abbrev cell : Ty × ℕ → Option Val → Item 𝓤
+    abbrev pub cell : Ty × ℕ → Option Val → Item 𝓤
     cell e none = ‵ (froom (e .0) (e .1) 0)
     cell e (some v) = ‵ (fat fullShare (e .0) (e .1) 0 v)
 
-    abbrev cells : Env 𝓤 H → Known → List (Item 𝓤) → List (Item 𝓤)
+    abbrev pub cells : Env 𝓤 H → Known → List (Item 𝓤) → List (Item 𝓤)
     cells [] vs Γ = Γ
     cells (e ∷ E) vs Γ = cell e (first vs) ∷ cells E (rest vs) Γ
 
@@ -124,7 +128,8 @@ module _ {M : Type 1} (𝓤 : URA M) (H : Heap 𝓤) where
           move ! (1 ∷ 0 ∷ 2 ∷ []) $ by ! (stored ls (bs .1) vs (ok .1) (sep 𝓤 (H .at fullShare τ (bs .0) 0 v) R) P
           (qed W (raw (all-of E (these vs)) ∷ ‵ (fat fullShare τ (bs .0) 0 v) ∷ raw R ∷ []) ∵ move ! (1 ∷ 0 ∷ []) $ join ! $ by ! k))
 
--- A function is entered: what is left to walk is its body, with its locals in front, of which the arguments are known.
+-- A function is entered: what is left to walk is its body, with its locals in front, of which the
+-- arguments are known.
 pub enters : {M : Type 1} {𝓤 : URA M} {H : Heap 𝓤} {A : Atoms 𝓤} {K : Type 0} {W : Given 𝓤 H A} {Γ : List (Item 𝓤)} → K → (C : Calls 𝓤 H) (Λ : Loops 𝓤 H)
     (f : Fn) (vs : List Val) (Kf : Val → SProp 𝓤) → Passed 𝓤 H (f .locals) vs
     → ((bs : Blocks (f .locals))
@@ -147,9 +152,27 @@ enters {𝓤 = 𝓤} {H = H} {A = A} {W = W} {Γ = Γ} t C Λ f vs Kf ok k =
         by ! (stored 𝓤 H A W ls (bs .1) vs ok (sep 𝓤 (H .room τ (bs .0) 0) (sep 𝓤 D (⋆ 𝓤 H A Γ))) P
         (qed W (raw (all-of 𝓤 H A E (these vs)) ∷ raw (H .room τ (bs .0) 0) ∷ raw D ∷ raw (⋆ 𝓤 H A Γ) ∷ []) ∵ move ! (1 ∷ 0 ∷ []) $ join ! $ by ! h))
 
--- A function is left: what stands before its locals shows what it promises, and the locals are freed.
+-- A function is left: what stands before its locals shows what it promises, and the locals are
+-- freed.
 pub leaves : {M : Type 1} {𝓤 : URA M} {H : Heap 𝓤} {A : Atoms 𝓤} {K : Type 0} {W : Given 𝓤 H A} {E : Env 𝓤 H} {P : SProp 𝓤} → K → (Δ : List (Item 𝓤)) (vs : Known)
     → ent 𝓤 (⋆ 𝓤 H A Δ) P → Seq K W (Δ ++ locals 𝓤 H A E vs []) (frees E (prop P))
 leaves {𝓤 = 𝓤} {H = H} {A = A} {W = W} {E = E} {P = P} t Δ vs h =
     by t (via 𝓤 _ (⊢++ 𝓤 H A Δ (locals 𝓤 H A E vs [])) (via 𝓤 _ (monoR 𝓤 (⋆ 𝓤 H A Δ) (out 𝓤 H A E vs (raw (dying 𝓤 H E) ∷ [])))
     (qed W (raw (⋆ 𝓤 H A Δ) ∷ raw (all-of 𝓤 H A E vs) ∷ raw (dying 𝓤 H E) ∷ []) ∵ use1 W (raw P) h $ move ! (1 ∷ 2 ∷ 0 ∷ []) $ by ! (freed 𝓤 H A W E vs P))))
+
+-- The same with the locals behind what there is.
+pub enters-behind : {M : Type 1} {𝓤 : URA M} {H : Heap 𝓤} {A : Atoms 𝓤} {K : Type 0} {W : Given 𝓤 H A} {Γ : List (Item 𝓤)} → K → (C : Calls 𝓤 H) (Λ : Loops 𝓤 H)
+    (f : Fn) (vs : List Val) (Kf : Val → SProp 𝓤) → Passed 𝓤 H (f .locals) vs
+    → ((bs : Blocks (f .locals))
+    → Seq K W (Γ ++ locals 𝓤 H A (envOf 𝓤 H (f .locals) bs) (none ∷ these vs) []) (runs C Λ (envOf 𝓤 H (f .locals) bs) (f .body) (atRet (envOf 𝓤 H (f .locals) bs) Kf)))
+    → Seq K W Γ (prop (WpFn 𝓤 H C Λ f vs Kf))
+enters-behind {𝓤 = 𝓤} {H = H} {A = A} {W = W} {Γ = Γ} t C Λ f vs Kf ok k =
+    enters t C Λ f vs Kf ok (λ bs. by t (via 𝓤 _ (turned (envOf 𝓤 H (f .locals) bs) (none ∷ these vs)) (k bs .prf)))
+  where
+    turned : (E : Env 𝓤 H) (us : Known) → ent 𝓤 (⋆ 𝓤 H A (locals 𝓤 H A E us Γ)) (⋆ 𝓤 H A (Γ ++ locals 𝓤 H A E us []))
+    turned E us =
+        via 𝓤 _ (out 𝓤 H A E us (raw (dying 𝓤 H E) ∷ Γ))
+        (via 𝓤 _ (monoR 𝓤 (all-of 𝓤 H A E us) (pop 𝓤 H A (raw (dying 𝓤 H E)) Γ))
+        (via 𝓤 _ (qed W (raw (all-of 𝓤 H A E us) ∷ raw (dying 𝓤 H E) ∷ raw (⋆ 𝓤 H A Γ) ∷ []) ∵ move ! (2 ∷ []) $ frame ! $
+        by ! (back 𝓤 H A E us (raw (dying 𝓤 H E) ∷ [])))
+        (++⊢ 𝓤 H A Γ (locals 𝓤 H A E us []))))

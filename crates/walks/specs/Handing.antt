@@ -1,5 +1,6 @@
--- What is handed to a callee, and what is said at exit, by marks on the parameters: a marked one is at hand, as an entry of the context; one that is
--- not marked is plain, and is had for nothing. Where the marks end, all the parameters that are left are at hand as one entry.
+-- What is handed to a callee, and what is said at exit, by marks on the parameters: a marked one is
+-- at hand, as an entry of the context; one that is not marked is plain, and is had for nothing.
+-- Where the marks end, all the parameters that are left are at hand as one entry.
 use mathlib.Core.Path.{_≡_, sym, subst}
 use mathlib.Core.Bool.{Bool, true, false}
 use mathlib.Core.List.{List, [], _∷_, _++_}
@@ -115,7 +116,8 @@ module _ {M : Type 1} {𝓤 : URA M} {H : Heap 𝓤} {A : Atoms 𝓤} where
   hears W {Γ} T κs a ws ms =
       cut (‵ (lasts T κs a ws) ∷ []) (told 𝓤 H A κs ms (T .signature .params) (T .kept) a ws) Γ (told-lasts 𝓤 H A κs ms (T .signature .params) (T .kept) a ws)
 
-  -- A walk ends at the machine value v, with the result r and the last values ws: the tokens, and what is said of the parameters at hand.
+  -- A walk ends at the machine value v, with the result r and the last values ws: the tokens, and
+  -- what is said of the parameters at hand.
   module _ (W : Given 𝓤 H A) (T : Ended) (c : Clauses 𝓤 T) (y : Promised 𝓤 H A T c .Ghost) (v : Val) (r : Res (T .signature) (y .0 .0)) (ws : Lasts T (y .0 .0) (y .0 .3)) (φ : Type 0)
       (says : c (y .0 .0) (y .0 .3) .ensures (y .1) r (atExit T (y .0 .0) (y .0 .3) ws) ≡ fact 𝓤 φ) (p : φ)
       (ms : Marks) (tk : Item 𝓤) (e : mean 𝓤 H A tk ≡ alive 𝓤 H A (T .signature) (y .0 .0) (y .0 .1)) (silent : Silent 𝓤 H A (y .0 .0) ms (T .signature .params) (T .kept) (y .0 .3) ws) where

@@ -1,6 +1,7 @@
--- Lending, in a walk. A row of elements in memory is lent for a call as a slice, as `&mut` or as `&`, for a lifetime that lasts as long as the call, and
--- taken back after it. A slice that is itself lent as `&mut` is opened, so that its elements are at hand as a row, and shut with others in their place:
--- so it is lent on in the same way.
+-- Lending, in a walk. A row of elements in memory is lent for a call as a slice, as `&mut` or as
+-- `&`, for a lifetime that lasts as long as the call, and taken back after it. A slice that is
+-- itself lent as `&mut` is opened, so that its elements are at hand as a row, and shut with others
+-- in their place: so it is lent on in the same way.
 use mathlib.Core.Path.{_≡_, refl, sym, ap, subst, _∙_}
 use mathlib.Core.List.{List, [], _∷_}
 use Prim.Native.Nat.{ℕ}
@@ -43,16 +44,18 @@ lastly R γ ys zs = fsep (finally R γ zs) (feq ℕ (length zs) (length ys))
 abbrev code : (R : RattleType) → List (R .Denot) → Gv
 code R ys = codedHoleys R .code (heres R ys)
 
--- What a `&κ mut [T]` is known to be: its machine value is its place and length, and its elements have room.
-abbrev pub Known : (R : RattleType) → ℕ → ℕ → List (R .Denot) → List Val → Type 0
-Known R b o ys vs = (vs ≡ sliceVal (b, o) (length ys) ∷ []) × Room R (length ys)
+-- What a `&κ mut [T]` is known to be: its machine value is its place and length, and its elements
+-- have room.
+abbrev pub SliceIs : (R : RattleType) → ℕ → ℕ → List (R .Denot) → List Val → Type 0
+SliceIs R b o ys vs = (vs ≡ sliceVal (b, o) (length ys) ∷ []) × Room R (length ys)
 
 module _ {M : Type 1} (𝓤 : URA M) where
   -- What is kept while it is open.
   abbrev pub opened : Lft → Share → (R : RattleType) → ℕ → ℕ → GName → List (R .Denot) → Item 𝓤
   opened κ q R b o γ ys = ‵ (fobor κ q (Held R (length ys) b o γ)) ⊛ ‵ (fobs γ (code R ys)) ⊛ ‵ (fauth γ (code R ys))
 
-  -- What is kept while it is lent on for the lifetime ν: as `&mut`, known to the callee by δ, or as `&`.
+  -- What is kept while it is lent on for the lifetime ν: as `&mut`, known to the callee by δ, or as
+  -- `&`.
   abbrev pub lent : Lft → Share → (R : RattleType) → ℕ → ℕ → GName → List (R .Denot) → ℕ → GName → Item 𝓤
   lent κ q R b o γ ys ν δ = ‵ (flent (ν ∷ []) (Held R (length ys) b o δ)) ⊛ opened κ q R b o γ ys
 
@@ -61,7 +64,7 @@ module _ {M : Type 1} (𝓤 : URA M) where
 
 module _ {M : Type 1} {𝓤 : URA M} {H : Heap 𝓤} {A : Atoms 𝓤} {K : Type 0} {W : Given 𝓤 H A} {Γ : List (Item 𝓤)} {G : Goal 𝓤 H} where
   -- A row is lent as `&mut`, and taken back with the elements that the callee says it leaves.
-  pub lends-row : K → Soaks G → (R : RattleType) (b o : ℕ) (ys : List (R .Denot)) (vs : List Val) → Known R b o ys vs
+  pub lends-row : K → Soaks G → (R : RattleType) (b o : ℕ) (ys : List (R .Denot)) (vs : List Val) → SliceIs R b o ys vs
       → ((ν : ℕ) (δ : GName) → Seq K W (‵ (flft (ν ∷ []) fullShare) ∷ ‵ (mutOwn (ν ∷ []) R b o δ ys vs) ∷ ‵ (flent (ν ∷ []) (Held R (length ys) b o δ)) ∷ Γ) G)
       → Seq K W (‵ (row R fullShare ys b o) ∷ Γ) G
   lends-row t z R b o ys vs known k =
@@ -78,7 +81,7 @@ module _ {M : Type 1} {𝓤 : URA M} {H : Heap 𝓤} {A : Atoms 𝓤} {K : Type 
       use1 W (‵ (row R fullShare zs b o)) (whole-out 𝓤 H A W R zs b o) $ k e)
 
   -- It is lent as `&`, and taken back as it was.
-  pub shows-row : K → Soaks G → (R : RattleType) (b o : ℕ) (ys : List (R .Denot)) (vs : List Val) → Known R b o ys vs
+  pub shows-row : K → Soaks G → (R : RattleType) (b o : ℕ) (ys : List (R .Denot)) (vs : List Val) → SliceIs R b o ys vs
       → ((ν : ℕ) (δ : GName) → Seq K W (‵ (flft (ν ∷ []) fullShare) ∷ ‵ (shrOwn (ν ∷ []) R b o δ ys vs) ∷ ‵ (flent (ν ∷ []) (arr-parts (shares R) (length ys) .part fullShare ys b o)) ∷ Γ) G)
       → Seq K W (‵ (row R fullShare ys b o) ∷ Γ) G
   shows-row t z R b o ys vs known k =
@@ -93,12 +96,12 @@ module _ {M : Type 1} {𝓤 : URA M} {H : Heap 𝓤} {A : Atoms 𝓤} {K : Type 
 -- A slice is opened, and shut.
 module _ {M : Type 1} {𝓤 : URA M} {H : Heap 𝓤} {A : Atoms 𝓤} {K : Type 0} {W : Given 𝓤 H A} {Γ : List (Item 𝓤)} {G : Goal 𝓤 H} where
   pub opens : K → Soaks G → {κ : Lft} {q : Share} (R : RattleType) (b o : ℕ) {γ : GName} (ys : List (R .Denot)) (vs : List Val)
-      → (Known R b o ys vs → Seq K W (‵ (row R fullShare ys b o) ∷ opened 𝓤 κ q R b o γ ys ∷ Γ) G)
+      → (SliceIs R b o ys vs → Seq K W (‵ (row R fullShare ys b o) ∷ opened 𝓤 κ q R b o γ ys ∷ Γ) G)
       → Seq K W (‵ (mutOwn κ R b o γ ys vs) ∷ ‵ (flft κ q) ∷ Γ) G
   opens t z R b o {γ} ys vs k =
       fsplit t $ pureL t (at-slice R (sliceAt b o γ ys) vs) (λ p. fsplit t $ opens-slice t z R ys b o $ move t (2 ∷ 3 ∷ []) $ join t $ move t (2 ∷ 0 ∷ []) $ join t $ move t (1 ∷ 0 ∷ []) $ k p)
 
-  pub shuts : K → Soaks G → {κ : Lft} {q : Share} (R : RattleType) (b o : ℕ) {γ : GName} (ys zs : List (R .Denot)) (vs : List Val) → Known R b o ys vs → length zs ≡ length ys
+  pub shuts : K → Soaks G → {κ : Lft} {q : Share} (R : RattleType) (b o : ℕ) {γ : GName} (ys zs : List (R .Denot)) (vs : List Val) → SliceIs R b o ys vs → length zs ≡ length ys
       → Step K W (‵ (mutOwn κ R b o γ zs vs) ∷ ‵ (flft κ q) ∷ Γ) G (‵ (row R fullShare zs b o) ∷ opened 𝓤 κ q R b o γ ys ∷ Γ) G
   shuts t z R b o {γ} ys zs vs known e = step (λ s.
       move t (1 ∷ []) $ split t $ move t (1 ∷ []) $ split t $ move t (3 ∷ 2 ∷ []) $ closes-slice t z R ys zs e b o $ fjoin t $
@@ -106,13 +109,13 @@ module _ {M : Type 1} {𝓤 : URA M} {H : Heap 𝓤} {A : Atoms 𝓤} {K : Type 
 
   -- It is lent on as `&mut`.
   pub lends : K → Soaks G → {κ : Lft} {q : Share} (R : RattleType) (b o : ℕ) {γ : GName} (ys : List (R .Denot)) (vs : List Val)
-      → (Known R b o ys vs → (ν : ℕ) (δ : GName) → Seq K W (‵ (flft (ν ∷ []) fullShare) ∷ ‵ (mutOwn (ν ∷ []) R b o δ ys vs) ∷ lent 𝓤 κ q R b o γ ys ν δ ∷ Γ) G)
+      → (SliceIs R b o ys vs → (ν : ℕ) (δ : GName) → Seq K W (‵ (flft (ν ∷ []) fullShare) ∷ ‵ (mutOwn (ν ∷ []) R b o δ ys vs) ∷ lent 𝓤 κ q R b o γ ys ν δ ∷ Γ) G)
       → Seq K W (‵ (mutOwn κ R b o γ ys vs) ∷ ‵ (flft κ q) ∷ Γ) G
   lends t z R b o ys vs k =
       opens t z R b o ys vs (λ known. lends-row t z R b o ys vs known (λ ν δ. move t (2 ∷ 3 ∷ []) $ join t $ move t (1 ∷ 2 ∷ 0 ∷ []) $ k known ν δ))
 
   -- And taken back, with the elements that the callee says it leaves.
-  pub takes-back : K → Soaks G → {κ : Lft} {q : Share} (R : RattleType) (b o : ℕ) {γ : GName} (ys zs : List (R .Denot)) (vs : List Val) → Known R b o ys vs → (ν : ℕ) (δ : GName)
+  pub takes-back : K → Soaks G → {κ : Lft} {q : Share} (R : RattleType) (b o : ℕ) {γ : GName} (ys zs : List (R .Denot)) (vs : List Val) → SliceIs R b o ys vs → (ν : ℕ) (δ : GName)
       → (length zs ≡ length ys → Seq K W (‵ (mutOwn κ R b o γ zs vs) ∷ ‵ (flft κ q) ∷ Γ) G)
       → Seq K W (‵ (flft (ν ∷ []) fullShare) ∷ lent 𝓤 κ q R b o γ ys ν δ ∷ ‵ (lastly R δ ys zs) ∷ Γ) G
   takes-back t z R b o ys zs vs known ν δ k =
@@ -120,12 +123,12 @@ module _ {M : Type 1} {𝓤 : URA M} {H : Heap 𝓤} {A : Atoms 𝓤} {K : Type 
 
   -- It is lent on as `&`, and taken back as it was.
   pub shows-on : K → Soaks G → {κ : Lft} {q : Share} (R : RattleType) (b o : ℕ) {γ : GName} (ys : List (R .Denot)) (vs : List Val)
-      → (Known R b o ys vs → (ν : ℕ) (δ : GName) → Seq K W (‵ (flft (ν ∷ []) fullShare) ∷ ‵ (shrOwn (ν ∷ []) R b o δ ys vs) ∷ shown 𝓤 κ q R b o γ ys ν ∷ Γ) G)
+      → (SliceIs R b o ys vs → (ν : ℕ) (δ : GName) → Seq K W (‵ (flft (ν ∷ []) fullShare) ∷ ‵ (shrOwn (ν ∷ []) R b o δ ys vs) ∷ shown 𝓤 κ q R b o γ ys ν ∷ Γ) G)
       → Seq K W (‵ (mutOwn κ R b o γ ys vs) ∷ ‵ (flft κ q) ∷ Γ) G
   shows-on t z R b o ys vs k =
       opens t z R b o ys vs (λ known. shows-row t z R b o ys vs known (λ ν δ. move t (2 ∷ 3 ∷ []) $ join t $ move t (1 ∷ 2 ∷ 0 ∷ []) $ k known ν δ))
 
-  pub has-shown : K → Soaks G → {κ : Lft} {q : Share} (R : RattleType) (b o : ℕ) {γ : GName} (ys : List (R .Denot)) (vs : List Val) → Known R b o ys vs → (ν : ℕ)
+  pub has-shown : K → Soaks G → {κ : Lft} {q : Share} (R : RattleType) (b o : ℕ) {γ : GName} (ys : List (R .Denot)) (vs : List Val) → SliceIs R b o ys vs → (ν : ℕ)
       → Step K W (‵ (mutOwn κ R b o γ ys vs) ∷ ‵ (flft κ q) ∷ Γ) G (‵ (flft (ν ∷ []) fullShare) ∷ shown 𝓤 κ q R b o γ ys ν ∷ Γ) G
   has-shown t z R b o ys vs known ν = step (λ s.
       move t (1 ∷ []) $ split t $ move t (2 ∷ 0 ∷ []) $ row-shown t z R b o ys ν $ shuts t z R b o ys ys vs known refl $ s)

@@ -1,5 +1,4 @@
 -- Laws of walking, for the proofs by hand.
-pub mod Prelude
 pub mod Steps
 pub mod Frames
 pub mod Turns
@@ -10,3 +9,10 @@ pub mod Meeting
 pub mod Handing
 pub mod Returning
 pub mod Arrays
+pub mod Places
+pub mod Straight
+pub mod Forms
+pub mod Passing
+pub mod Coding
+pub mod Asks
+pub mod Prelude

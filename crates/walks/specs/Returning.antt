@@ -1,5 +1,5 @@
--- The last call of a function, whose result is what the function returns: the callee is called, its result stored in the first local, and the locals
--- freed.
+-- The last call of a function, whose result is what the function returns: the callee is called, its
+-- result stored in the first local, and the locals freed.
 use mathlib.Core.Path.{_≡_, refl}
 use mathlib.Core.List.{List, [], _∷_, _++_}
 use mathlib.Core.Option.{none, some}

@@ -1,5 +1,6 @@
--- One slot of a lent list of markers, in a walk: it is read, or another marker is put in it. The list is a slice, so slot i lies 6 bytes further on for
--- each slot before it. The rules take the step that reads or stores, which sees the slot's cell at the head of the context.
+-- One slot of a lent list of markers, in a walk: it is read, or another marker is put in it. The
+-- list is a slice, so slot i lies a marker's size further on for each slot before it. The rules
+-- take the step that reads or stores, which sees the slot's cell at the head of the context.
 use mathlib.Core.Path.{_≡_, refl, sym}
 use mathlib.Core.List.{List, [], _∷_}
 use Prim.Native.Nat.{ℕ, _+_, _*_, _<_, _^_}
@@ -25,6 +26,10 @@ use Rattle.field.specs.Labels.{blank}
 use Rattle.field.proofs.Marker as T
 use Rattle.field.proofs.Marker.Laws as T′
 
+-- A marker's size in bytes.
+abbrev pub marker-size : ℕ
+marker-size = 6
+
 -- A marker as a machine value, and that what a slot or a local of its type holds is one.
 abbrev pub mach : Marker → Val
 mach m = LL.val T.the-type T′.the-laws m
@@ -46,7 +51,7 @@ slot ys i = getD ys i blank
 
 -- The share q of slot i, holding m, of a list that begins at (b, o).
 abbrev pub cellOf : Share → Marker → ℕ → ℕ → ℕ → Fml
-cellOf q m b o i = cellAt q (T.the-row .mir) (mach m ∷ []) b (i * 6 + o)
+cellOf q m b o i = cellAt q (T.the-row .mir) (mach m ∷ []) b (i * marker-size + o)
 
 -- The slots but i.
 abbrev pub othersOf : Share → List Marker → ℕ → ℕ → ℕ → Fml
@@ -74,13 +79,13 @@ module _ {M : Type 1} {𝓤 : URA M} {H : Heap 𝓤} {A : Atoms 𝓤} {K : Type 
   seen t q ys b o i l k =
       elem-out t T.the-row (Is T.the-row) (shows 𝓤 H A T.the-row) (LL.vals T.the-type T′.the-laws) (LL.tells T.the-type T′.the-laws) q ys i blank b o l (λ g.
       move t (1 ∷ []) $ drop t $
-      rewrite t 0 (λ (p : ℕ). ‵ (cellAt q (T.the-row .mir) (mach (slot ys i) ∷ []) b p)) (place-is 6 o i) refl $ move t (1 ∷ 2 ∷ []) $ join t $ move t (1 ∷ []) $ k g)
+      rewrite t 0 (λ (p : ℕ). ‵ (cellAt q (T.the-row .mir) (mach (slot ys i) ∷ []) b p)) (place-is marker-size o i) refl $ move t (1 ∷ 2 ∷ []) $ join t $ move t (1 ∷ []) $ k g)
 
   owns-again : K → (q : Share) (ys : List Marker) (b o i : ℕ) (m : Marker) → IsMarker m
-      → Step K W (‵ (cellAt q (T.the-row .mir) (mach m ∷ []) b (place 6 o i)) ∷ ‵ (T.the-row .own m (mach m ∷ [])) ∷ ‵ (othersOf q ys b o i) ∷ j ∷ Γ) G
+      → Step K W (‵ (cellAt q (T.the-row .mir) (mach m ∷ []) b (place marker-size o i)) ∷ ‵ (T.the-row .own m (mach m ∷ [])) ∷ ‵ (othersOf q ys b o i) ∷ j ∷ Γ) G
       (‵ (cellOf q m b o i) ∷ (‵ (othersOf q ys b o i) ⊛ j) ∷ Γ) G
   owns-again t q ys b o i m is = step (λ s.
-      rewrite t 0 (λ (p : ℕ). ‵ (cellAt q (T.the-row .mir) (mach m ∷ []) b p)) (sym (place-is 6 o i)) refl $ move t (1 ∷ []) $ split t $ move t (2 ∷ 0 ∷ 1 ∷ []) $
+      rewrite t 0 (λ (p : ℕ). ‵ (cellAt q (T.the-row .mir) (mach m ∷ []) b p)) (sym (place-is marker-size o i)) refl $ move t (1 ∷ []) $ split t $ move t (2 ∷ 0 ∷ 1 ∷ []) $
       owned t T.the-row (Is T.the-row) (LL.makes T.the-type T′.the-plain 𝓤 H A) m (mach m ∷ []) is $ move t (1 ∷ 0 ∷ []) $ s)
 
   -- It is put back as it was, or with another marker.

@@ -1,4 +1,5 @@
--- Single statements of a walk, in short. A local is named by its entry in the context, and its fields by their numbers.
+-- Single statements of a walk, in short. A local is named by its entry in the context, and its
+-- fields by their numbers.
 use mathlib.Core.Path.{_≡_, refl, sym, subst}
 use mathlib.Core.List.{List, [], _∷_}
 use mathlib.Core.Option.{some}
@@ -40,7 +41,8 @@ module _ {M : Type 1} {𝓤 : URA M} {H : Heap 𝓤} {A : Atoms 𝓤} {K : Type 
       (look-in t n (subst (λ (j : Item 𝓤). Part K W j q τ b (zero + d) (getV vs k) (λ u. ‵ (fat q (tyStruct ν τs) b zero (vstruct (setV vs k u))))) (sym e) (sub t k f (whole t))))
 
 module _ {M : Type 1} {𝓤 : URA M} {H : Heap 𝓤} {A : Atoms 𝓤} {K : Type 0} {W : Given 𝓤 H A} {Γ : List (Item 𝓤)} {E : Env 𝓤 H} {C : Calls 𝓤 H} {Λ : Loops 𝓤 H} {z : Post 𝓤 H} where
-  -- A slice that the local at entry n holds is lent on: a reference to its first element, at entry i, and with its length a slice again, at entry j.
+  -- A slice that the local at entry n holds is lent on: a reference to its first element, at entry
+  -- i, and with its length a slice again, at entry j.
   pub relends : K → (n i j : ℕ) {s p r : ℕ} {q : Share} {ν : Sym} {τs : Tys} {b c o : ℕ} {len : Val} {σ σ′ τ : Ty} {d d′ : ℕ} {rest : Body}
       → nth 𝓤 H A n Γ ≡ ‵ (fat q (tyStruct ν τs) b zero (vstruct (vcons (vptr c o) (vcons len vnil)))) → spotOf 𝓤 H E s ≡ (tyStruct ν τs, b, zero)
       → fieldAt zero τs 0 ≡ some (σ, d) → fieldAt zero τs 1 ≡ some (σ′, d′)

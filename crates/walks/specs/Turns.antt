@@ -1,6 +1,7 @@
--- Loops in a walk. A loop's state is any type with a measure that falls from turn to turn, so that the loop ends; what holds at each turn is the whole
--- context, as a function of the state. The loops here stand in a block of their own, as a `while` or a `loop` does, and after them the rest of the
--- function runs.
+-- Loops in a walk. A loop's state is any type with a measure that falls from turn to turn, so that
+-- the loop ends; what holds at each turn is the whole context, as a function of the state. The
+-- loops here stand in a block of their own, as a `while` or a `loop` does, and after them the rest
+-- of the function runs.
 use mathlib.Core.Path.{refl}
 use mathlib.Core.Bool.{Bool, not}
 use mathlib.Core.List.{List}
@@ -24,8 +25,9 @@ Falls μ u t = μ u < μ t
 falls-ends : {X : Type 0} (μ : X → ℕ) → WellFounded (Falls μ)
 falls-ends μ = InvImage·wf μ (Nat·lt-wfRel .wf)
 
--- A loop that is walked: the tables of calls and loops, the locals, what the function is to come to, the rest that runs once the loop is left, the
--- loop's states with their measure, and what holds at each.
+-- A loop that is walked: the tables of calls and loops, the locals, what the function is to come
+-- to, the rest that runs once the loop is left, the loop's states with their measure, and what
+-- holds at each.
 pub record Round {M : Type 1} (𝓤 : URA M) (H : Heap 𝓤) : Type 2 where
   pub tables : Tables 𝓤 H
   pub env : Env 𝓤 H
@@ -43,7 +45,8 @@ module _ {M : Type 1} {𝓤 : URA M} {H : Heap 𝓤} where
   abbrev pub Rest : Round 𝓤 H → Goal 𝓤 H
   Rest ρ = runsIn ρ (ρ .rest) (atRet (ρ .env) (ρ .aim))
 
-  -- What a turn from the state x is to come to: the next turn, at a smaller state; or the loop is left, and the rest runs; or the function returns.
+  -- What a turn from the state x is to come to: the next turn, at a smaller state; or the loop is
+  -- left, and the rest runs; or the function returns.
   abbrev Turned : Atoms 𝓤 → (ρ : Round 𝓤 H) → ρ .State → Out → SProp 𝓤
   Turned A ρ x =
       afterTurn 𝓤 H (Below 𝓤 H A (Falls (ρ .measure)) (ρ .holds) x)

@@ -1,19 +1,14 @@
--- Numbers and the header as the code writes them, computed. That these are the grammar's numbers and header stands in DigitLaws.
+-- Numbers and the header as the code writes them, computed. That these are the grammar's numbers
+-- and header stands in DigitLaws.
 use mathlib.Core.List.{List, [], _∷_, _++_}
 use Prim.Native.Nat.{ℕ, zero, suc, _+_, _-_, _/_, _%_, _^_, _<_, _≤_}
 use Rattle.mapfile.specs.File.{raw-letters}
 
--- A number from 1 on that four digits hold.
-pub record ShortNumber (v : ℕ) : Type 0 where
-  pub some : 1 ≤ v
-  pub short : v < 10000
-
--- n digits hold the number, and n - 1 do not.
+-- n digits hold the number, and n - 1 do not; 0 has one digit.
 pub record DigitCount (v n : ℕ) : Type 0 where
   pub some : 1 ≤ n
-  pub few : n ≤ 4
   pub enough : v < 10 ^ n
-  pub needed : 10 ^ (n - 1) ≤ v
+  pub needed : 2 ≤ n → 10 ^ (n - 1) ≤ v
 
 -- The n lowest decimal digits of v, the highest first.
 unfoldable pub digitsOf : ℕ → ℕ → List ℕ

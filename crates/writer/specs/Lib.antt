@@ -1,4 +1,5 @@
--- What the map writer promises and what that comes to; then what its functions compute on the way, and why that is the promise.
+-- What the map writer promises and what that comes to; then what its functions compute on the way,
+-- and why that is the promise.
 pub mod Promise
 pub mod Outcome
 pub mod Digits

@@ -1,5 +1,6 @@
--- What the promise comes to. One outcome: two that it allows for the same input are equal, in the answer and in every byte of the output, for the
--- file is one list of bytes, and either it fits or it does not. And what is written is a map with the same crossings.
+-- What the promise comes to. One outcome: two that it allows for the same input are equal, in the
+-- answer and in every byte of the output, for the file is one list of bytes, and either it fits or
+-- it does not. And what is written is a map with the same crossings.
 use mathlib.Core.Path.{_≡_, refl, sym, ap, _∙_}
 use mathlib.Core.List.{List}
 use mathlib.Core.Logic.{_↔_}
@@ -34,7 +35,8 @@ writes-one w h s out after other Short (Bytes m) p q =
     absurd (omega (arith, ap length file, q .counted, q .fits, p .long))
 writes-one w h s out after other Short Short p q = (refl, p .same ∙ sym (q .same))
 
--- "Reading a written map ... gives the same crossings": the bytes written are a map by the grammar, and its rocks are the sheet's marks.
+-- "Reading a written map ... gives the same crossings": the bytes written are a map by the grammar,
+-- and its rocks are the sheet's marks.
 pub writes-map : (w h : ℕ) (s out after : List ℕ) (n : ℕ) → Asked w h s → Writes w h s out after (Bytes n)
     → (bits : List ℕ) × MapFile (take n after) w h bits × ((x y : ℕ) → (FileRock w h bits x y ↔ Marked s w h x y))
 writes-map w h s out after n asked p = (m .0, rw front (m .1), λ x y. (λ f. m .2 x y .0 f .1, λ k. m .2 x y .1 (k .on, k)))

@@ -1,7 +1,7 @@
 -- The writer's promise, over a sheet on which the rocks are stamped.
 use mathlib.Core.Path.{_≡_}
 use mathlib.Core.List.{List, _++_}
-use Prim.Native.Nat.{ℕ, _*_, _<_, _≤_}
+use Prim.Native.Nat.{ℕ, _<_, _≤_}
 use lib.ListN.{length, drop}
 use Rattle.field.specs.Refusals.{success, short-output}
 use Rattle.field.specs.Workings.Sheet.{Marked}
@@ -10,7 +10,8 @@ pub use Rattle.packing.specs.Packing.{Asked}
 use Rattle.writer.specs.declared.Wrote.{Wrote}
 use Rattle.writer.specs.declared.Wrote.the-variants.{Bytes, Short}
 
--- Document 01's number for each case: 0 on success, 17 where the output is too short for the whole file.
+-- Document 01's number for each case: 0 on success, 17 where the output is too short for the whole
+-- file.
 abbrev pub wroteNumber : Wrote → ℕ
 wroteNumber (Bytes n) = success
 wroteNumber Short = short-output

@@ -1,12 +1,13 @@
-// The map writer: raw PBM, P4, from a sheet on which the rocks are stamped. The file's length comes first, so that an output too short is found
-// before a byte of it is touched. Then each piece of the file is written into its own part of the output.
+// The map writer: raw PBM, P4, from a sheet on which the rocks are stamped. The file's length comes
+// first, so that an output too short is found before a byte of it is touched. Then each piece of
+// the file is written into its own part of the output.
 ghost use mathlib.Core.Path.{_≡_};
 ghost use mathlib.Core.List.{_∷_, [], _++_};
 ghost use Prim.Native.Nat.{_≤_, _+_};
 ghost use lib.ListN.{length};
 ghost use Rattle.mapfile.specs.File.{raw-letters};
 ghost use Rattle.writer.specs.Promise.{Asked, Writes};
-ghost use Rattle.writer.specs.Digits.{ShortNumber, DigitCount, digitsOf, headerOf};
+ghost use Rattle.writer.specs.Digits.{DigitCount, digitsOf, headerOf};
 
 // What writing comes to: so many bytes, or an output too short for the whole file.
 pub enum Wrote {
@@ -14,21 +15,17 @@ pub enum Wrote {
     Short,
 }
 
-// How many decimal digits a number has. Widths, heights and numbers of crossings have at most four.
+// How many decimal digits a number has: as often as ten goes into it, and one more. So 0 has one.
 pub fn digit_count(v: usize) -> usize
-    requires { ⌜ ShortNumber v ⌝ }
     ensures { λ r. ⌜ DigitCount v r ⌝ }
 {
-    if v < 10 {
-        return 1;
+    let mut n = 1;
+    let mut rest = v / 10;
+    while 0 < rest {
+        n += 1;
+        rest = rest / 10;
     }
-    if v < 100 {
-        return 2;
-    }
-    if v < 1000 {
-        return 3;
-    }
-    4
+    n
 }
 
 // One decimal digit, of a number below ten.
@@ -63,7 +60,8 @@ fn write_letters(out: &mut [u8])
     out[2] = b'\n';
 }
 
-// The header: "P4", LF, width, space, height, LF. The slice has just its length; the width has a digits and the height b.
+// The header: "P4", LF, width, space, height, LF. The slice has just its length; the width has a
+// digits and the height b.
 fn write_header(out: &mut [u8], w: usize, a: usize, h: usize, b: usize)
     requires { ⌜ length (now out) ≡ a + b + 5 ⌝ }
     ensures { λ _. ⌜ now (out .exit) ≡ headerOf w a h b ⌝ }
@@ -78,7 +76,8 @@ fn write_header(out: &mut [u8], w: usize, a: usize, h: usize, b: usize)
     out[end] = b'\n';
 }
 
-// Writes the map whose rocks are marked on the sheet. Bytes past the end stay; an output too short is left as it is.
+// Writes the map whose rocks are marked on the sheet. Bytes past the end stay; an output too short
+// is left as it is.
 pub fn write(s: &[u8], w: usize, h: usize, out: &mut [u8]) -> Wrote
     requires { ⌜ Asked w h (now s) ⌝ }
     ensures { λ r. ⌜ Writes w h (now (s .entry)) (now (out .entry)) (now (out .exit)) r ⌝ }

@@ -1,4 +1,5 @@
-//! A case: one call with all its numbers and all the memory lent to it; and what can be seen after the call.
+//! A case: one call with all its numbers and all the memory lent to it; and what can be seen after
+//! the call.
 use independent::map::{Crossing, Map};
 use independent::markers::Marker;
 
@@ -128,7 +129,8 @@ impl Case {
     }
 }
 
-/// What can be seen after a call: the refusal number, each number of the answer with its name, and all memory.
+/// What can be seen after a call: the refusal number, each number of the answer with its name, and
+/// all memory.
 #[derive(Clone, Debug, PartialEq, Eq)]
 pub struct After {
     pub refusal: u8,

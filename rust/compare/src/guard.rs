@@ -1,4 +1,5 @@
-//! Buffers as they are lent to the library: between guards, whose elements are known and looked at after the call.
+//! Buffers as they are lent to the library: between guards, whose elements are known and looked at
+//! after the call.
 
 /// Guard elements on each side. An odd number, so that byte buffers stand at odd addresses.
 const GUARD: usize = 61;

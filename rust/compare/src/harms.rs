@@ -4,7 +4,8 @@ use crate::lists::{Harm, LIST_HARMS};
 use crate::random::{Random, Weighted};
 use independent::map::Crossing;
 
-/// Sides that no map has. Those past 2^32 would be a small side if they were cut to fewer bits. The side may be a bad one already.
+/// Sides that no map has. Those past 2^32 would be a small side if they were cut to fewer bits. The
+/// side may be a bad one already.
 fn bad_side(random: &mut Random, side: usize) -> usize {
     let past = |n: usize| side.saturating_add(n);
     random.pick(&[
@@ -73,7 +74,8 @@ pub const PLACE_HARMS: [Harm; 4] = [
     }),
 ];
 
-/// How far off the map: a place that would be on it if it were cut to fewer bits, or as far as can be.
+/// How far off the map: a place that would be on it if it were cut to fewer bits, or as far as can
+/// be.
 fn far(random: &mut Random) -> usize {
     random.pick(&[64, 256, 65_536, 1 << 32, usize::MAX])
 }

@@ -1,9 +1,11 @@
-//! What the proved library says of a case: the same call through the C interface, with every buffer between guards.
+//! What the proved library says of a case: the same call through the C interface, with every buffer
+//! between guards.
 use crate::case::{After, Call, Case};
 use crate::lendings::Lendings;
 use grainbodkin_sys as sys;
 
-/// The library's answer and memory after the call, and the names of the buffers whose guards were changed.
+/// The library's answer and memory after the call, and the names of the buffers whose guards were
+/// changed.
 pub fn run(case: &Case) -> (After, Vec<&'static str>) {
     let mut lent = Lendings::new(&case.before);
     let (refusal, answer) = match case.call {
@@ -29,8 +31,9 @@ pub fn run(case: &Case) -> (After, Vec<&'static str>) {
 
 type Answer = (u8, Vec<(&'static str, usize)>);
 
-// SAFETY, of each call below: every pointer comes from a buffer of its own, stands before that buffer's length, is aligned and not null; no two
-// buffers overlap. The numbers may be anything: the calls promise an answer for every value.
+// SAFETY, of each call below: every pointer comes from a buffer of its own, stands before that
+// buffer's length, is aligned and not null; no two buffers overlap. The numbers may be anything:
+// the calls promise an answer for every value.
 
 fn enter(case: &Case, lent: &mut Lendings) -> Answer {
     let [place, _] = case.places;

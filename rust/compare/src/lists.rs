@@ -7,7 +7,8 @@ use independent::markers::{Marker, MOST};
 /// A way to harm a case: its name and what it does.
 pub type Harm = (&'static str, fn(&mut Random, &mut Case));
 
-/// Lends the case a well-formed list whose rocks are these, with slots past the count full of noise.
+/// Lends the case a well-formed list whose rocks are these, with slots past the count full of
+/// noise.
 pub fn lend(random: &mut Random, case: &mut Case, rocks: &[Crossing]) {
     let mut places = rocks.to_vec();
     if random.percent(25) && !places.is_empty() {
@@ -72,7 +73,8 @@ fn marker(id: u16, x: usize, y: usize) -> Marker {
     }
 }
 
-/// How far off the map: a marker that would be on it if it were cut to eight bits, or as far as can be.
+/// How far off the map: a marker that would be on it if it were cut to eight bits, or as far as can
+/// be.
 const FAR: [u16; 5] = [64, 0x100, 0x4000, 0x8000, u16::MAX];
 
 /// The ways to harm a list: each makes it one that refusal 3 is for.
@@ -156,7 +158,8 @@ fn at_least(case: &mut Case, count: usize) {
     }
 }
 
-/// Makes the list longer than may be in use, with rising ids on one crossing, so that only its count is at fault.
+/// Makes the list longer than may be in use, with rising ids on one crossing, so that only its
+/// count is at fault.
 fn long(random: &mut Random, case: &mut Case) {
     let slots = MOST + random.between(1, 5);
     let place = [case.map.width, case.map.height].map(|side| side.min(SIDE) / 2);

@@ -1,11 +1,13 @@
-//! Compares the proved library, call by call and byte by byte, with the independent program over random cases; and the labelling program with the
-//! independent text.
+//! Compares the proved library, call by call and byte by byte, with the independent program over
+//! random cases; and the labelling program with the independent text.
 //!
 //!     compare [CASES] [SEED] [FIRST] [--label PATH] [--aloud]
 //!
-//! CASES cases are made from SEED, beginning with number FIRST. A case depends on SEED and its number alone, so a difference is made again by running
-//! its number alone. `--label PATH`, or the variable GRAINBODKIN_LABEL, names the labelling program. `--aloud` prints each number before its call, to
-//! find a call that does not come back. The status is 0 only without a difference and, in a whole run, with everything reached.
+//! CASES cases are made from SEED, beginning with number FIRST. A case depends on SEED and its
+//! number alone, so a difference is made again by running its number alone. `--label PATH`, or the
+//! variable GRAINBODKIN_LABEL, names the labelling program. `--aloud` prints each number before its
+//! call, to find a call that does not come back. The status is 0 only without a difference and, in
+//! a whole run, with everything reached.
 mod case;
 mod edits;
 mod expected;

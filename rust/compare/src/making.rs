@@ -1,4 +1,5 @@
-//! Makes the case with a given number: a call, a map, a list, places and buffers, and now and then something harmed.
+//! Makes the case with a given number: a call, a map, a list, places and buffers, and now and then
+//! something harmed.
 use crate::case::{Call, Case};
 use crate::harms::harm;
 use crate::lists::{lend, noise};
@@ -58,7 +59,8 @@ fn read_case(random: &mut Random) -> Case {
     case
 }
 
-/// Sheets of the right size, a route about as long as the drive, an output about as long as the file; all full of noise.
+/// Sheets of the right size, a route about as long as the drive, an output about as long as the
+/// file; all full of noise.
 fn lend_buffers(random: &mut Random, case: &mut Case) {
     let crossings = case.map.width * case.map.height;
     if case.call.sheets() > 0 {

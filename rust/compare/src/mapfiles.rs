@@ -1,4 +1,5 @@
-//! Random map files: made by the grammar part by part, so that each edit knows where it strikes; and noise.
+//! Random map files: made by the grammar part by part, so that each edit knows where it strikes;
+//! and noise.
 use crate::maps;
 use crate::random::Random;
 use independent::map::{Crossing, Map};
@@ -145,7 +146,8 @@ fn raw_raster(random: &mut Random, marks: &[Vec<bool>], parts: &mut Parts) {
     }
 }
 
-/// A map file or noise: the names of what it is made of, its bytes, and how many rocks it had before it was damaged.
+/// A map file or noise: the names of what it is made of, its bytes, and how many rocks it had
+/// before it was damaged.
 pub fn file(random: &mut Random) -> (Vec<&'static str>, Vec<u8>, usize) {
     if random.percent(8) {
         let (name, make) = random.pick(&NOISES);

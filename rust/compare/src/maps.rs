@@ -56,7 +56,8 @@ pub fn size(random: &mut Random) -> (&'static str, Map) {
     (name, make(random))
 }
 
-/// The rocks of a random shape, with its name; now and then with one rock more or less than the shape has.
+/// The rocks of a random shape, with its name; now and then with one rock more or less than the
+/// shape has.
 pub fn rocks(random: &mut Random, map: Map) -> (&'static str, Vec<Crossing>) {
     let (name, make) = random.by_weight(&SHAPES);
     let mut rocks = make(random, map);

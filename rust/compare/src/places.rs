@@ -60,8 +60,8 @@ fn near(random: &mut Random, map: Map, rock: Crossing) -> Crossing {
     Crossing::new(beside(rock.x, map.width), beside(rock.y, map.height))
 }
 
-/// One place in the rock's row or column on either side of it, the second now and then one row or column away: pairs that often have no shortest
-/// drive.
+/// One place in the rock's row or column on either side of it, the second now and then one row or
+/// column away: pairs that often have no shortest drive.
 fn across(random: &mut Random, map: Map, rock: Crossing) -> [Crossing; 2] {
     let mut one = rock;
     let mut other = rock;

@@ -1,4 +1,5 @@
-//! The labelling program against the independent text: random and damaged files on its standard input, whole or in small pieces.
+//! The labelling program against the independent text: random and damaged files on its standard
+//! input, whole or in small pieces.
 use crate::mapfiles;
 use crate::random::Random;
 use crate::report::shortened;
@@ -145,7 +146,8 @@ fn one_run(
     }
 }
 
-/// The program's whole output for an input. An end by a signal, or anything on standard error, is no output.
+/// The program's whole output for an input. An end by a signal, or anything on standard error, is
+/// no output.
 fn output(path: &Path, input: &[u8], pieces: bool) -> Result<Vec<u8>, String> {
     let mut child = Command::new(path)
         .stdin(Stdio::piped())
@@ -168,8 +170,9 @@ fn output(path: &Path, input: &[u8], pieces: bool) -> Result<Vec<u8>, String> {
     }
 }
 
-/// Writes the input at once, or in some hundred pieces with a pause after each, so that the program reads less than it asks for. The program may stop
-/// reading before the end; then the rest is not wanted.
+/// Writes the input at once, or in some hundred pieces with a pause after each, so that the program
+/// reads less than it asks for. The program may stop reading before the end; then the rest is not
+/// wanted.
 fn feed(mut stdin: ChildStdin, input: &[u8], pieces: bool) {
     let size = if pieces {
         input.len() / 100 + 1

@@ -1,4 +1,5 @@
-//! A small random generator. Each case has one of its own, made from the run's seed and the case's number, so that any case can be made again alone.
+//! A small random generator. Each case has one of its own, made from the run's seed and the case's
+//! number, so that any case can be made again alone.
 
 /// Adds a fixed odd number to the state and mixes its bits (splitmix64).
 pub struct Random {

@@ -1,4 +1,5 @@
-//! What is said of a difference: the case in full, so that it can be read, and how to make it again.
+//! What is said of a difference: the case in full, so that it can be read, and how to make it
+//! again.
 use crate::case::{After, Call, Case};
 use independent::map::Crossing;
 use std::fmt::{Debug, Write};
@@ -70,7 +71,8 @@ pub fn shortened(bytes: &[u8]) -> String {
     )
 }
 
-/// The case in words: its numbers, its list, its map as far as there is one, its file, and what its buffers hold.
+/// The case in words: its numbers, its list, its map as far as there is one, its file, and what its
+/// buffers hold.
 pub fn describe(case: &Case) -> String {
     let mut text = String::new();
     let m = &case.before;

@@ -1,4 +1,5 @@
-//! What was reached: how often each call ended with each number, and how often each thing that cases are made of was used.
+//! What was reached: how often each call ended with each number, and how often each thing that
+//! cases are made of was used.
 use crate::case::{After, Call, Case, CALLS};
 use crate::{edits, harms, lists, making, mapfiles, maps, places};
 use std::collections::BTreeMap;

@@ -1,9 +1,15 @@
-//! The eleven calls of the proved static library, as `include/grainbodkin.h` declares them. A slice goes as pointer and length.
+//! The eleven calls of the proved static library, as `include/grainbodkin.h` declares them. A slice
+//! goes as pointer and length.
 //!
-//! A pointer is not null, even where its length is 0; it is aligned for its type and points to as many elements as its length says; what a call may write
-//! overlaps nothing else that is lent to the same call; and there is room on the stack, at most 25,600 bytes. For every other value of every parameter a
-//! call answers, by its refusal or its success. The crate `grainbodkin` has the same calls without `unsafe`.
+//! A pointer is not null, even where its length is 0; it is aligned for its type and points to as
+//! many elements as its length says; what a call may write overlaps nothing else that is lent to
+//! the same call; and there is room on the stack, [`STACK`] bytes below the caller. For every other
+//! value of every parameter a call answers, by its refusal or its success. The crate `grainbodkin`
+//! has the same calls without `unsafe`.
 #![no_std]
+
+/// The most bytes of stack that a call is held to below its caller, as the header's `BODKIN_STACK`.
+pub const STACK: usize = 9_216;
 
 /// A rock marker: an id, 1 to 65,535, and a crossing.
 #[repr(C)]
@@ -48,7 +54,8 @@ pub struct Assurance {
     pub assured: bool,
 }
 
-/// How many hops homeward are permitted, none at home, and where they lead, the east-west one first; or the refusal.
+/// How many hops homeward are permitted, none at home, and where they lead, the east-west one
+/// first; or the refusal.
 #[repr(C)]
 #[derive(Clone, Copy, Debug, PartialEq, Eq)]
 pub struct Homeward {

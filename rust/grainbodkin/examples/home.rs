@@ -39,7 +39,7 @@ fn journey() -> Result<(), Refusal> {
 
 fn main() {
     if let Err(refusal) = journey() {
-        println!("refused {}", refusal.number());
+        println!("{refusal}");
         std::process::exit(1);
     }
 }

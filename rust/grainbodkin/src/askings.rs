@@ -18,6 +18,11 @@ impl Markers {
     /// assert_eq!((labels.rocks(), labels.shut(), labels.groups()), (2, 2, 1));
     /// # Ok::<(), grainbodkin::Refusal>(())
     /// ```
+    ///
+    /// # Errors
+    ///
+    /// Passes a refusal of the library on. A list, map and sheet of this type are never at fault,
+    /// so that none of 1, 2 and 3 is given.
     pub fn label(&self) -> Result<Labels, Refusal> {
         let mut sheet = self.sheet();
         let numbers = self.lend().label(&mut sheet)?;
@@ -25,6 +30,8 @@ impl Markers {
     }
 
     /// The four clear distances of a crossing.
+    ///
+    /// # Errors
     ///
     /// Refuses 4.
     ///
@@ -45,6 +52,11 @@ impl Markers {
     }
 
     /// The clear distances of the whole map. [`Distances`] has an example.
+    ///
+    /// # Errors
+    ///
+    /// Passes a refusal of the library on. A list, map and sheet of this type are never at fault,
+    /// so that none of 1, 2 and 3 is given.
     pub fn measure(&self) -> Result<Distances, Refusal> {
         let mut sheets = [self.sheet(), self.sheet(), self.sheet(), self.sheet()];
         let [east, south, west, north] = &mut sheets;
@@ -53,8 +65,11 @@ impl Markers {
         Ok(Distances::new(self.map(), sheets))
     }
 
-    /// Whether home is assured for a place: both are open and, on each axis, the offset from home to the place is 0, or home's
-    /// distance that way is none, or the offset is less than that distance.
+    /// Whether home is assured for a place: both are open and, on each axis, the offset from home
+    /// to the place is 0, or home's distance that way is none, or the offset is less than that
+    /// distance.
+    ///
+    /// # Errors
     ///
     /// Refuses 4 or 8.
     ///
@@ -76,12 +91,16 @@ impl Markers {
 
     /// Every permitted hop from a place towards home. [`Hops`] has an example.
     ///
+    /// # Errors
+    ///
     /// Refuses 4, 8 or 11.
     pub fn hop(&self, home: Place, place: Place) -> Result<Hops, Refusal> {
         self.lend().hop(home, place, &mut self.sheet())
     }
 
     /// The region of shortest drives from s to d, for every open pair, assured or not.
+    ///
+    /// # Errors
     ///
     /// Refuses 4, 8 or 9.
     ///
@@ -106,6 +125,8 @@ impl Markers {
 
     /// A shortest drive from s to d, made by the chooser, which moves on. [`Drive`] has an example.
     ///
+    /// # Errors
+    ///
     /// Refuses 4, 8 or 9; then the chooser is unchanged.
     pub fn drive(&self, s: Place, d: Place, chooser: &mut Chooser) -> Result<Drive, Refusal> {
         // No shortest drive has more crossings than a row and a column together.
@@ -115,8 +136,10 @@ impl Markers {
         Ok(Drive::new(self.map(), route))
     }
 
-    /// A shortest drive from s to d into a lent route: hands back the filled part of it, s first and d last. The rest of the
-    /// route is unchanged.
+    /// A shortest drive from s to d into a lent route: hands back the filled part of it, s first
+    /// and d last. The rest of the route is unchanged.
+    ///
+    /// # Errors
     ///
     /// Refuses 4, 8, 9 or 10; then route and chooser are unchanged.
     ///
@@ -148,6 +171,8 @@ impl Markers {
     }
 
     /// Writes the list as a PBM map, P4. Reading it gives the same crossings.
+    ///
+    /// # Errors
     ///
     /// Refuses 16.
     ///

@@ -1,16 +1,22 @@
-//! The eleven calls of the static library, lent slices in place of pointers and lengths. All of the crate's `unsafe` is here.
+//! The eleven calls of the static library, lent slices in place of pointers and lengths. All of the
+//! crate's `unsafe` is here.
 //!
-//! The library asks five things of its caller; for all else it answers or refuses. Four hold for every slice and every `&mut`:
+//! The library asks five things of its caller; for all else it answers or refuses. Four hold for
+//! every slice and every `&mut`:
 //! - a pointer is not null, even where its length is 0: a slice's pointer never is;
-//! - it is aligned and points to so many elements: pointer and length come from one slice, which is lent until the call ends;
-//! - what a call may write overlaps nothing else lent to it: it is lent by `&mut`, and the rest by other references;
+//! - it is aligned and points to so many elements: pointer and length come from one slice, which is
+//!   lent until the call ends;
+//! - what a call may write overlaps nothing else lent to it: it is lent by `&mut`, and the rest by
+//!   other references;
 //! - each element is a value of its type: every `u8`, `u16`, `u32` and `Marker` is one, in and out.
 //!
-//! The fifth no type can hold: there is room on the stack, at most 25,600 bytes below the caller (docs/INTEGRATORS.md has each
-//! call's). The library takes a large frame page by page and touches each, so that a thread without the room meets its guard page,
-//! and the process ends before other memory is written.
+//! The fifth no type can hold: there is room on the stack, [`STACK`](crate::STACK) bytes below the
+//! caller (docs/INTEGRATORS.md has each call's). The library takes a large frame page by page and
+//! touches each, so that a thread without the room meets its guard page, and the process ends
+//! before other memory is written.
 //!
-//! The library keeps no pointer past a call and has no memory of its own, so calls from several threads do not meet.
+//! The library keeps no pointer past a call and has no memory of its own, so calls from several
+//! threads do not meet.
 
 use std::mem::{align_of, offset_of, size_of};
 
@@ -36,7 +42,8 @@ fn pointer_mut(slots: &mut [Marker]) -> *mut sys::Marker {
 }
 
 pub(crate) fn enter(list: &mut MarkersMut<'_>, id: u16, place: Place) -> sys::Counted {
-    // SAFETY: pointer and length are those of `slots`, which is lent by `&mut`; nothing else is lent.
+    // SAFETY: pointer and length are those of `slots`, which is lent by `&mut`; nothing else is
+    // lent.
     unsafe {
         sys::bodkin_enter(
             pointer_mut(list.slots),
@@ -52,7 +59,8 @@ pub(crate) fn enter(list: &mut MarkersMut<'_>, id: u16, place: Place) -> sys::Co
 }
 
 pub(crate) fn clear(list: &mut MarkersMut<'_>, id: u16) -> sys::Counted {
-    // SAFETY: pointer and length are those of `slots`, which is lent by `&mut`; nothing else is lent.
+    // SAFETY: pointer and length are those of `slots`, which is lent by `&mut`; nothing else is
+    // lent.
     unsafe {
         sys::bodkin_clear(
             pointer_mut(list.slots),
@@ -66,7 +74,8 @@ pub(crate) fn clear(list: &mut MarkersMut<'_>, id: u16) -> sys::Counted {
 }
 
 pub(crate) fn label(list: MarkersRef<'_>, labels: &mut [u8]) -> sys::Labelling {
-    // SAFETY: each pointer stands before its own slice's length. Only `labels` is written, and it is lent by `&mut`.
+    // SAFETY: each pointer stands before its own slice's length. Only `labels` is written, and it
+    // is lent by `&mut`.
     unsafe {
         sys::bodkin_label(
             pointer(list.slots),
@@ -81,7 +90,8 @@ pub(crate) fn label(list: MarkersRef<'_>, labels: &mut [u8]) -> sys::Labelling {
 }
 
 pub(crate) fn distances(list: MarkersRef<'_>, place: Place, labels: &mut [u8]) -> sys::Four {
-    // SAFETY: each pointer stands before its own slice's length. Only `labels` is written, and it is lent by `&mut`.
+    // SAFETY: each pointer stands before its own slice's length. Only `labels` is written, and it
+    // is lent by `&mut`.
     unsafe {
         sys::bodkin_distances(
             pointer(list.slots),
@@ -99,8 +109,8 @@ pub(crate) fn distances(list: MarkersRef<'_>, place: Place, labels: &mut [u8]) -
 
 pub(crate) fn measure(list: MarkersRef<'_>, labels: &mut [u8], sheets: [&mut [u8]; 4]) -> u8 {
     let [east, south, west, north] = sheets;
-    // SAFETY: each pointer stands before its own slice's length. The five sheets that are written are lent by `&mut` each, so
-    // they overlap neither one another nor the list.
+    // SAFETY: each pointer stands before its own slice's length. The five sheets that are written
+    // are lent by `&mut` each, so they overlap neither one another nor the list.
     unsafe {
         sys::bodkin_measure(
             pointer(list.slots),
@@ -128,7 +138,8 @@ pub(crate) fn assured(
     place: Place,
     labels: &mut [u8],
 ) -> sys::Assurance {
-    // SAFETY: each pointer stands before its own slice's length. Only `labels` is written, and it is lent by `&mut`.
+    // SAFETY: each pointer stands before its own slice's length. Only `labels` is written, and it
+    // is lent by `&mut`.
     unsafe {
         sys::bodkin_assured(
             pointer(list.slots),
@@ -152,7 +163,8 @@ pub(crate) fn hop(
     place: Place,
     labels: &mut [u8],
 ) -> sys::Homeward {
-    // SAFETY: each pointer stands before its own slice's length. Only `labels` is written, and it is lent by `&mut`.
+    // SAFETY: each pointer stands before its own slice's length. Only `labels` is written, and it
+    // is lent by `&mut`.
     unsafe {
         sys::bodkin_hop(
             pointer(list.slots),
@@ -177,7 +189,8 @@ pub(crate) fn region(
     labels: &mut [u8],
     region: &mut [u8],
 ) -> u8 {
-    // SAFETY: each pointer stands before its own slice's length. The two sheets that are written are lent by `&mut` each.
+    // SAFETY: each pointer stands before its own slice's length. The two sheets that are written
+    // are lent by `&mut` each.
     unsafe {
         sys::bodkin_region(
             pointer(list.slots),
@@ -206,8 +219,8 @@ pub(crate) fn drive(
     route: &mut [u16],
     state: &mut u32,
 ) -> sys::Drove {
-    // SAFETY: each pointer stands before its own slice's length, and `state` is one number. The sheets, the route and the
-    // state, which are written, are lent by `&mut` each.
+    // SAFETY: each pointer stands before its own slice's length, and `state` is one number. The
+    // sheets, the route and the state, which are written, are lent by `&mut` each.
     unsafe {
         sys::bodkin_drive(
             pointer(list.slots),
@@ -231,12 +244,14 @@ pub(crate) fn drive(
 }
 
 pub(crate) fn read(file: &[u8], slots: &mut [Marker]) -> sys::ReadMap {
-    // SAFETY: each pointer stands before its own slice's length. Only `slots` is written, and it is lent by `&mut`.
+    // SAFETY: each pointer stands before its own slice's length. Only `slots` is written, and it is
+    // lent by `&mut`.
     unsafe { sys::bodkin_read(file.as_ptr(), file.len(), pointer_mut(slots), slots.len()) }
 }
 
 pub(crate) fn write(list: MarkersRef<'_>, out: &mut [u8]) -> sys::WroteMap {
-    // SAFETY: each pointer stands before its own slice's length. Only `out` is written, and it is lent by `&mut`.
+    // SAFETY: each pointer stands before its own slice's length. Only `out` is written, and it is
+    // lent by `&mut`.
     unsafe {
         sys::bodkin_write(
             pointer(list.slots),

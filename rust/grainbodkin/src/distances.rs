@@ -5,8 +5,8 @@ use crate::{Map, Place};
 /// The byte that stands in a distance sheet where there is no distance.
 pub const NO_DISTANCE: u8 = 255;
 
-/// A crossing's four clear distances: the hops along its row or column to the nearest closed crossing that way, or `None` if
-/// there is none. At a closed crossing all four are 0.
+/// A crossing's four clear distances: the hops along its row or column to the nearest closed
+/// crossing that way, or `None` if there is none. At a closed crossing all four are 0.
 ///
 /// ```
 /// use grainbodkin::Clear;

@@ -4,8 +4,9 @@ use crate::{Map, Place};
 
 /// The state from which drives are drawn: 32 bits.
 ///
-/// With two candidates the state z becomes 1664525 × z + 1013904223, modulo 4,294,967,296, and its top bit takes the east-west
-/// candidate (0) or the north-south one (1). No draw is made otherwise. A drive moves the chooser on; a refusal leaves it.
+/// With two candidates the state z becomes 1664525 × z + 1013904223, modulo 4,294,967,296, and its
+/// top bit takes the east-west candidate (0) or the north-south one (1). No draw is made otherwise.
+/// A drive moves the chooser on; a refusal leaves it.
 #[derive(Clone, Copy, Debug, Default, PartialEq, Eq, Hash)]
 pub struct Chooser(
     /// The state.
@@ -66,7 +67,8 @@ impl Region {
     }
 }
 
-/// A shortest drive: open crossings, each a neighbour of the one before, from s to d, with as many hops as their distance.
+/// A shortest drive: open crossings, each a neighbour of the one before, from s to d, with as many
+/// hops as their distance.
 ///
 /// ```
 /// use grainbodkin::{Chooser, Map, Markers, Place};

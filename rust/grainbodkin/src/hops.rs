@@ -4,7 +4,8 @@ use crate::Place;
 
 /// Every permitted hop homeward: to an open neighbour one hop nearer home.
 ///
-/// Whichever hops a cart takes, again and again, it is home after exactly the east-west plus north-south distance.
+/// Whichever of them a cart takes, again and again, it is home after exactly the east-west plus
+/// north-south distance, as long as the markers stay the same on its way.
 ///
 /// ```
 /// use grainbodkin::{Hops, Map, Markers, Place};

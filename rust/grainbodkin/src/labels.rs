@@ -6,7 +6,8 @@ use crate::{Map, Place};
 
 /// What a crossing is.
 ///
-/// Closed crossings are the smallest set that holds all rocks and every crossing with two or more closed neighbours.
+/// Closed crossings are the smallest set that holds all rocks and every crossing with two or more
+/// closed neighbours.
 ///
 /// ```
 /// use grainbodkin::{Label, Map, Markers, Place};
@@ -86,7 +87,8 @@ pub struct Labelling {
 
 /// The labels of a map, with the numbers of rocks' crossings, shut crossings and groups.
 ///
-/// It is displayed as the labelling program prints it: width, height and the three numbers, then the rows from the north.
+/// It is displayed as the labelling program prints it: width, height and the three numbers, then
+/// the rows from the north.
 ///
 /// ```
 /// use grainbodkin::{Label, Markers, Place};

@@ -4,9 +4,10 @@ use crate::{calls, Chooser, Clear, Hops, Labelling, Map, Marker, Place, Refusal}
 
 /// A lent list of markers with its count, and the size of the map that it is for.
 ///
-/// Every value is allowed in every field: a call answers by the lowest refusal that applies, or succeeds. Sheets, routes and
-/// outputs are lent by the caller too, so nothing is copied and nothing is allocated, and at refusals 8, 9, 10 and 11 the
-/// caller sees what the sheets hold. [`Markers`](crate::Markers) has the same calls with memory of its own.
+/// Every value is allowed in every field: a call answers by the lowest refusal that applies, or
+/// succeeds. Sheets, routes and outputs are lent by the caller too, so nothing is copied and
+/// nothing is allocated, and at refusals 8, 9, 10 and 11 the caller sees what the sheets hold.
+/// [`Markers`](crate::Markers) has the same calls with memory of its own.
 ///
 /// Slots past the count are never read. No call on this type changes a slot.
 ///
@@ -40,7 +41,10 @@ pub struct MarkersRef<'a> {
 }
 
 impl MarkersRef<'_> {
-    /// Labels the map: one byte a crossing into `labels`, and the numbers of rocks' crossings, shut crossings and groups.
+    /// Labels the map: one byte a crossing into `labels`, and the numbers of rocks' crossings, shut
+    /// crossings and groups.
+    ///
+    /// # Errors
     ///
     /// Refuses 1, 2 or 3; then no byte changes.
     pub fn label(self, labels: &mut [u8]) -> Result<Labelling, Refusal> {
@@ -55,14 +59,18 @@ impl MarkersRef<'_> {
 
     /// The four clear distances of a crossing. `labels` holds the labels.
     ///
+    /// # Errors
+    ///
     /// Refuses 1, 2, 3 or 4; then no byte changes.
     pub fn distances(self, place: Place, labels: &mut [u8]) -> Result<Clear, Refusal> {
         let answer = calls::distances(self, place, labels);
         Refusal::or(answer.refusal, Clear::from(answer.four))
     }
 
-    /// The clear distances of the whole map, one sheet a way; [`NO_DISTANCE`](crate::NO_DISTANCE) where there is none.
-    /// `labels` holds the labels.
+    /// The clear distances of the whole map, one sheet a way; [`NO_DISTANCE`](crate::NO_DISTANCE)
+    /// where there is none. `labels` holds the labels.
+    ///
+    /// # Errors
     ///
     /// Refuses 1, 2 or 3; then no byte changes.
     pub fn measure(
@@ -78,6 +86,8 @@ impl MarkersRef<'_> {
 
     /// Whether home is assured for a place. `labels` holds the labels.
     ///
+    /// # Errors
+    ///
     /// Refuses 1, 2, 3 or 4, and then no byte changes; or 8, and then `labels` holds the labels.
     pub fn assured(self, home: Place, place: Place, labels: &mut [u8]) -> Result<bool, Refusal> {
         let answer = calls::assured(self, home, place, labels);
@@ -86,7 +96,10 @@ impl MarkersRef<'_> {
 
     /// Every permitted hop from a place towards home. `labels` holds the labels.
     ///
-    /// Refuses 1, 2, 3 or 4, and then no byte changes; or 8 or 11, and then `labels` holds the labels.
+    /// # Errors
+    ///
+    /// Refuses 1, 2, 3 or 4, and then no byte changes; or 8 or 11, and then `labels` holds the
+    /// labels.
     ///
     /// ```
     /// use grainbodkin::{Marker, MarkersRef, Place, Refusal};
@@ -107,11 +120,13 @@ impl MarkersRef<'_> {
         Refusal::or(answer.refusal, Hops::new(answer.hops, first, second))
     }
 
-    /// The region of shortest drives from s to d: 1 in `region` for each crossing on at least one, 0 for every other. `labels`
-    /// holds the labels.
+    /// The region of shortest drives from s to d: 1 in `region` for each crossing on at least one,
+    /// 0 for every other. `labels` holds the labels.
     ///
-    /// Refuses 1, 2, 3 or 4, and then no byte changes; or 8 or 9, and then `labels` holds the labels, and `region` is unchanged
-    /// at 8 and all 0 at 9.
+    /// # Errors
+    ///
+    /// Refuses 1, 2, 3 or 4, and then no byte changes; or 8 or 9, and then `labels` holds the
+    /// labels, and `region` is unchanged at 8 and all 0 at 9.
     pub fn region(
         self,
         s: Place,
@@ -122,11 +137,15 @@ impl MarkersRef<'_> {
         Refusal::or(calls::region(self, s, d, labels, region), ())
     }
 
-    /// A shortest drive from s to d, made by the chooser: hands back the filled part of the route, crossing numbers, s first and
-    /// d last. The rest of the route is unchanged. `labels` and `region` hold labels and region, and the chooser moves on.
+    /// A shortest drive from s to d, made by the chooser: hands back the filled part of the route,
+    /// crossing numbers, s first and d last. The rest of the route is unchanged. `labels` and
+    /// `region` hold labels and region, and the chooser moves on.
     ///
-    /// Refuses 1, 2, 3 or 4, and then no byte changes; or 8, 9 or 10, and then `labels` holds the labels, `region` is unchanged
-    /// at 8, all 0 at 9 and the region at 10, and route and chooser are unchanged.
+    /// # Errors
+    ///
+    /// Refuses 1, 2, 3 or 4, and then no byte changes; or 8, 9 or 10, and then `labels` holds the
+    /// labels, `region` is unchanged at 8, all 0 at 9 and the region at 10, and route and chooser
+    /// are unchanged.
     ///
     /// ```
     /// use grainbodkin::{Chooser, MarkersRef, Place};
@@ -155,8 +174,10 @@ impl MarkersRef<'_> {
         Refusal::or(answer.refusal, &mut route[..answer.length])
     }
 
-    /// Writes the list as a PBM map, P4, to the front of `out`, and hands back the number of bytes written.
-    /// [`Map::file_len`] has that number beforehand. Bytes past the end stay.
+    /// Writes the list as a PBM map, P4, to the front of `out`, and hands back the number of bytes
+    /// written. [`Map::file_len`] has that number beforehand. Bytes past the end stay.
+    ///
+    /// # Errors
     ///
     /// Refuses 1, 3, 16 or 17; then no byte changes.
     ///
@@ -177,7 +198,8 @@ impl MarkersRef<'_> {
 
 /// A list of markers lent to be changed, with its count, and the size of the map that it is for.
 ///
-/// Every value is allowed in every field, as in [`MarkersRef`]. Entering and clearing set the count on success.
+/// Every value is allowed in every field, as in [`MarkersRef`]. Entering and clearing set the count
+/// on success.
 ///
 /// ```
 /// use grainbodkin::{Marker, MarkersMut, Place, Refusal};
@@ -203,11 +225,13 @@ pub struct MarkersMut<'a> {
 }
 
 impl<'a> MarkersMut<'a> {
-    /// Reads a PBM map, P1 or P4. Its rocks become markers with ids 1, 2, 3 and on, in raster order, in the first slots; other
-    /// slots stay.
+    /// Reads a PBM map, P1 or P4. Its rocks become markers with ids 1, 2, 3 and on, in raster
+    /// order, in the first slots; other slots stay.
     ///
-    /// Refuses 12, then 13 in the header, 1, then at the first fault met in the raster 13, 14 or 15, then 7; no slot changes
-    /// then.
+    /// # Errors
+    ///
+    /// Refuses 12, then 13 in the header, 1, then at the first fault met in the raster 13, 14 or
+    /// 15, then 7; no slot changes then.
     ///
     /// ```
     /// use grainbodkin::{Marker, MarkersMut};
@@ -229,7 +253,10 @@ impl<'a> MarkersMut<'a> {
         Refusal::or(answer.refusal, list)
     }
 
-    /// Enters a marker: puts it at its place by id, moves the later ones up by one, and hands back the new count.
+    /// Enters a marker: puts it at its place by id, moves the later ones up by one, and hands back
+    /// the new count.
+    ///
+    /// # Errors
     ///
     /// Refuses 1, 3, 4, 5 or 7; then no slot changes.
     pub fn enter(&mut self, id: u16, place: Place) -> Result<usize, Refusal> {
@@ -237,8 +264,10 @@ impl<'a> MarkersMut<'a> {
         self.counted(answer.refusal, answer.count)
     }
 
-    /// Clears the marker with this id: moves the later ones down, sets the one slot so freed to zeros, and hands back the new
-    /// count.
+    /// Clears the marker with this id: moves the later ones down, sets the one slot so freed to
+    /// zeros, and hands back the new count.
+    ///
+    /// # Errors
     ///
     /// Refuses 1, 3 or 6; then no slot changes.
     pub fn clear(&mut self, id: u16) -> Result<usize, Refusal> {
@@ -256,7 +285,11 @@ impl<'a> MarkersMut<'a> {
         }
     }
 
-    /// The map's size. Refuses [`Refusal::BadSize`].
+    /// The map's size.
+    ///
+    /// # Errors
+    ///
+    /// Refuses [`Refusal::BadSize`].
     pub fn map(&self) -> Result<Map, Refusal> {
         Map::new(self.width, self.height)
     }

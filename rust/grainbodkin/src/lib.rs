@@ -1,9 +1,10 @@
 //! Grainbodkin: the obstacle layer for carts on a grid of crossings.
 //!
-//! It keeps a list of rock markers, labels the crossings of one rectangular map, gives clear distances, tells whether home is
-//! assured, gives the region of shortest drives, makes a drive, gives single hops homeward, reads PBM (plain P1 and raw P4) and
-//! writes P4. The work is done by the proved static library `liblayer.a`; this crate lends its eleven calls in Rust's manner,
-//! with nothing `unsafe` in its interface.
+//! It keeps a list of rock markers, labels the crossings of one rectangular map, gives clear
+//! distances, tells whether home is assured, gives the region of shortest drives, makes a drive,
+//! gives single hops homeward, reads PBM (plain P1 and raw P4) and writes P4. The work is done by
+//! the proved static library `liblayer.a`; this crate lends its eleven calls in Rust's manner, with
+//! nothing `unsafe` in its interface.
 //!
 //! A journey: read a map, label it, ask whether home is assured, hop home.
 //!
@@ -26,16 +27,17 @@
 //!
 //! # Two forms
 //!
-//! [`Markers`] owns its list, and its askings take memory for their sheets: they hand back [`Labels`], [`Distances`],
-//! [`Region`] and [`Drive`]. [`MarkersRef`] and [`MarkersMut`] borrow the caller's list, sheets and route, and take every value
-//! that there is. Both ask the same library: a call answers, or it gives the lowest [`Refusal`] that applies. The borrowing form
-//! tests nothing before it. The owning form is made so that its list, map and sheets fit: [`Map::new`] refuses a bad size, and
-//! [`Markers::new`] takes no more room than [`MARKERS`] slots.
+//! [`Markers`] owns its list, and its askings take memory for their sheets: they hand back
+//! [`Labels`], [`Distances`], [`Region`] and [`Drive`]. [`MarkersRef`] and [`MarkersMut`] borrow
+//! the caller's list, sheets and route, and take every value that there is. Both ask the same
+//! library: a call answers, or it gives the lowest [`Refusal`] that applies. The borrowing form
+//! tests nothing before it. The owning form is made so that its list, map and sheets fit:
+//! [`Map::new`] refuses a bad size, and [`Markers::new`] takes no more room than [`MARKERS`] slots.
 //!
 //! # Stack
 //!
-//! A call takes up to 25,600 bytes of stack, reading a file the most. No compiler checks that a thread has so much left; one that
-//! has not ends the process, as any overflow of the stack does.
+//! A call is held to at most [`STACK`] bytes of stack. No compiler checks that a thread has so much
+//! left; one that has not ends the process, as any overflow of the stack does.
 
 #![deny(missing_docs, unsafe_code, unsafe_op_in_unsafe_fn)]
 
@@ -51,6 +53,8 @@ mod map;
 mod marker;
 mod markers;
 mod refusal;
+
+pub use grainbodkin_sys::STACK;
 
 pub use distances::{Clear, Distances, NO_DISTANCE};
 pub use drives::{Chooser, Drive, Region};

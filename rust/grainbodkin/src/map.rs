@@ -7,10 +7,12 @@ use crate::Refusal;
 /// The greatest width and the greatest height of a map.
 pub const SIDE: usize = 64;
 
-/// The most bytes that a written map file has: "P4", LF, two digits, space, two digits, LF and the packed rows.
+/// The most bytes that a written map file has: "P4", LF, two digits, space, two digits, LF and the
+/// packed rows.
 pub const LONGEST_FILE: usize = file_len(SIDE, SIDE);
 
-/// A crossing that is asked for or stands on a map: x rises to the east from 0, y rises to the north from 0.
+/// A crossing that is asked for or stands on a map: x rises to the east from 0, y rises to the
+/// north from 0.
 ///
 /// A place may be off a map; then the calls refuse it with [`Refusal::BadPlace`].
 #[derive(Clone, Copy, Debug, Default, PartialEq, Eq, Hash)]
@@ -27,7 +29,8 @@ impl Place {
         Place { x, y }
     }
 
-    /// The distance to another place: east-west plus north-south offset. It saturates, for places far off any map.
+    /// The distance to another place: east-west plus north-south offset. It saturates, for places
+    /// far off any map.
     ///
     /// ```
     /// use grainbodkin::Place;
@@ -74,7 +77,11 @@ pub struct Map {
 }
 
 impl Map {
-    /// The map of this width and height. Refuses [`Refusal::BadSize`] (1), exactly when the calls do.
+    /// The map of this width and height.
+    ///
+    /// # Errors
+    ///
+    /// Refuses [`Refusal::BadSize`] (1), exactly when the calls do.
     pub const fn new(width: usize, height: usize) -> Result<Map, Refusal> {
         if width == 0 || width > SIDE || height == 0 || height > SIDE {
             return Err(Refusal::BadSize);

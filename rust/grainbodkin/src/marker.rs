@@ -7,7 +7,8 @@ pub const MARKERS: usize = 4096;
 
 /// A rock marker: an id, 1 to 65,535, and a crossing.
 ///
-/// Several markers may stand on one crossing; each is kept. The record is laid out as C's `struct bodkin_marker`.
+/// Several markers may stand on one crossing; each is kept. The record is laid out as C's `struct
+/// bodkin_marker`.
 #[derive(Clone, Copy, Debug, Default, PartialEq, Eq, Hash)]
 #[repr(C)]
 pub struct Marker {

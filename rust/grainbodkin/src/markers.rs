@@ -7,9 +7,10 @@ use crate::{Map, Marker, MarkersMut, MarkersRef, Place, Refusal, MARKERS};
 
 /// A list of rock markers for one map, in memory of its own, with room for so many.
 ///
-/// Its ids rise strictly and its markers are on the map, because it changes by [`enter`](Markers::enter),
-/// [`clear`](Markers::clear) and [`read`](Markers::read) alone. So its askings are not refused for the list, the map or the
-/// sheets (1, 2 and 3). Every asking labels afresh. [`MarkersRef`] and [`MarkersMut`] have the same calls over lent memory.
+/// Its ids rise strictly and its markers are on the map, because it changes by
+/// [`enter`](Markers::enter), [`clear`](Markers::clear) and [`read`](Markers::read) alone. So its
+/// askings are not refused for the list, the map or the sheets (1, 2 and 3). Every asking labels
+/// afresh. [`MarkersRef`] and [`MarkersMut`] have the same calls over lent memory.
 ///
 /// ```
 /// use grainbodkin::{Label, Map, Marker, Markers, Place, Refusal};
@@ -32,7 +33,8 @@ pub struct Markers {
 }
 
 impl Markers {
-    /// An empty list for a map, with room for so many markers. Room over [`MARKERS`] could not be used and is not kept.
+    /// An empty list for a map, with room for so many markers. Room over [`MARKERS`] could not be
+    /// used and is not kept.
     pub fn new(map: Map, room: usize) -> Markers {
         let slots = vec![Marker::default(); room.min(MARKERS)];
         Markers {
@@ -42,10 +44,13 @@ impl Markers {
         }
     }
 
-    /// Reads a PBM map, P1 or P4, into a list with room for so many markers. Its rocks become markers with ids 1, 2, 3 and on,
-    /// in raster order, the first row being the northmost.
+    /// Reads a PBM map, P1 or P4, into a list with room for so many markers. Its rocks become
+    /// markers with ids 1, 2, 3 and on, in raster order, the first row being the northmost.
     ///
-    /// Refuses 12, then 13 in the header, 1, then at the first fault met in the raster 13, 14 or 15, then 7.
+    /// # Errors
+    ///
+    /// Refuses 12, then 13 in the header, 1, then at the first fault met in the raster 13, 14 or
+    /// 15, then 7.
     ///
     /// ```
     /// use grainbodkin::{Marker, Markers, Refusal};
@@ -64,7 +69,10 @@ impl Markers {
         Ok(Markers { map, slots, count })
     }
 
-    /// Enters a marker: puts it at its place by id, moves the later ones up by one, and hands back the new count.
+    /// Enters a marker: puts it at its place by id, moves the later ones up by one, and hands back
+    /// the new count.
+    ///
+    /// # Errors
     ///
     /// Refuses 4, 5 or 7; then the list is unchanged.
     pub fn enter(&mut self, id: u16, place: Place) -> Result<usize, Refusal> {
@@ -72,7 +80,10 @@ impl Markers {
         Ok(self.count)
     }
 
-    /// Clears the marker with this id, moves the later ones down, and hands back the new count. The room is used again.
+    /// Clears the marker with this id, moves the later ones down, and hands back the new count. The
+    /// room is used again.
+    ///
+    /// # Errors
     ///
     /// Refuses 6; then the list is unchanged.
     pub fn clear(&mut self, id: u16) -> Result<usize, Refusal> {

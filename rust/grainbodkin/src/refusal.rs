@@ -7,11 +7,12 @@ use crate::{MARKERS, SIDE};
 
 /// Why a call is refused: seventeen cases, each with its number.
 ///
-/// A call gives the lowest number that applies. Reading a file goes 12, 13 in the header, 1, then the raster: at the first
-/// fault met 13, 14 or 15, then 7.
+/// A call gives the lowest number that applies. Reading a file goes 12, 13 in the header, 1, then
+/// the raster: at the first fault met 13, 14 or 15, then 7.
 ///
-/// Refusals 1 to 7 and 12 to 17 change nothing that is lent. At 8, 9, 10 and 11 a lent label sheet holds the labels; a lent
-/// region sheet is unchanged at 8, all 0 at 9 and the region at 10; a route and a chooser are unchanged.
+/// Refusals 1 to 7 and 12 to 17 change nothing that is lent. At 8, 9, 10 and 11 a lent label sheet
+/// holds the labels; a lent region sheet is unchanged at 8, all 0 at 9 and the region at 10; a
+/// route and a chooser are unchanged.
 ///
 /// ```
 /// use grainbodkin::{Map, Refusal};
@@ -28,7 +29,8 @@ pub enum Refusal {
     BadSize = 1,
     /// 2: a lent sheet is not width × height bytes.
     BadSheet = 2,
-    /// 3: the count is over [`MARKERS`] or over the list lent, an id is 0, ids do not rise, or a marker is off the map.
+    /// 3: the count is over [`MARKERS`] or over the list lent, an id is 0, ids do not rise, or a
+    /// marker is off the map.
     BadList = 3,
     /// 4: a place or new marker is off the map, or a new id is 0.
     BadPlace = 4,
@@ -48,8 +50,8 @@ pub enum Refusal {
     NotAssured = 11,
     /// 12: a file's first two bytes are neither P1 nor P4, or there are fewer than two.
     BadLetters = 12,
-    /// 13: the header is against the rules or cut short, or a P1 raster has a byte before the last digit that is neither
-    /// digit 0, 1 nor blank.
+    /// 13: the header is against the rules or cut short, or a P1 raster has a byte before the last
+    /// digit that is neither digit 0, 1 nor blank.
     BadHeader = 13,
     /// 14: the raster ends early.
     ShortRaster = 14,
@@ -90,7 +92,8 @@ impl Refusal {
 
     /// The answer where the library's number is 0, else the refusal with that number.
     ///
-    /// The library gives no number over 17. One that did would not be this library: that is never taken as success.
+    /// The library gives no number over 17. One that did would not be this library: that is never
+    /// taken as success.
     pub(crate) fn or<T>(number: u8, answer: T) -> Result<T, Refusal> {
         match number {
             0 => Ok(answer),
@@ -104,10 +107,11 @@ impl fmt::Display for Refusal {
         write!(f, "refused {}: ", self.number())?;
         match self {
             Refusal::BadSize => write!(f, "width or height is 0 or over {SIDE}"),
-            Refusal::BadSheet => f.write_str("a lent sheet is not width × height bytes"),
+            Refusal::BadSheet => f.write_str("a lent sheet is not width times height bytes"),
             Refusal::BadList => write!(
                 f,
-                "count over {MARKERS} or over the list lent, an id 0, ids not rising, or a marker off the map"
+                "count over {MARKERS} or over the list lent, an id 0, ids not rising, or a marker off \
+                 the map"
             ),
             Refusal::BadPlace => f.write_str("a place or new marker is off the map, or a new id is 0"),
             Refusal::IdInUse => f.write_str("the id to enter is in use"),
@@ -119,7 +123,8 @@ impl fmt::Display for Refusal {
             Refusal::NotAssured => f.write_str("home is not assured"),
             Refusal::BadLetters => f.write_str("the file does not start with P1 or P4"),
             Refusal::BadHeader => f.write_str(
-                "the header is against the rules or cut short, or a P1 raster has a byte that is neither 0, 1 nor blank",
+                "the header is against the rules or cut short, or a P1 raster has a byte before its last \
+                 digit that is neither 0, 1 nor blank",
             ),
             Refusal::ShortRaster => f.write_str("the raster ends early"),
             Refusal::LongRaster => f.write_str("there are bytes after the raster"),

@@ -1,4 +1,5 @@
-//! The refusals: their numbers, the lowest that applies, and that 1 to 4 change no lent byte of any asking.
+//! The refusals: their numbers, the lowest that applies, and that 1 to 4 change no lent byte of any
+//! asking.
 
 mod common;
 
@@ -160,7 +161,8 @@ fn a_place_off_the_map_is_refused_4() {
     }
 }
 
-/// A marker that is on a flat map, and off the tall one of the same size. The places asked for are on the map each time.
+/// A marker that is on a flat map, and off the tall one of the same size. The places asked for are
+/// on the map each time.
 #[test]
 fn a_flat_map_is_not_a_tall_one() {
     let slots = slots(&[(8, 1)]);
@@ -227,8 +229,9 @@ fn every_number_is_reached() {
     assert_eq!(reached, Refusal::ALL);
 }
 
-/// Whatever the numbers are, every asking answers or refuses, and so does writing. An asking can succeed only where the map has as
-/// many crossings as the sheets have bytes, which is 1 by 64 and 64 by 1, and the count is 0: R's rocks are off those maps.
+/// Whatever the numbers are, every asking answers or refuses, and so does writing. An asking can
+/// succeed only where the map has as many crossings as the sheets have bytes, which is 1 by 64 and
+/// 64 by 1, and the count is 0: R's rocks are off those maps.
 #[test]
 fn hostile_numbers_are_answered() {
     let numbers = [0, 1, 3, 64, 65, 1 << 32, usize::MAX];

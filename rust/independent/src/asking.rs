@@ -4,7 +4,8 @@ use crate::map::{Crossing, Crossings, Map};
 use crate::markers::{bad_list, Marker};
 use crate::refusals::first_that_applies;
 
-/// What an asking is lent and told apart from its own buffers: the list, its count, the map, the label sheet, and the places asked about.
+/// What an asking is lent and told apart from its own buffers: the list, its count, the map, the
+/// label sheet, and the places asked about.
 #[derive(Clone, Copy, Debug)]
 pub struct Asking<'a> {
     pub list: &'a [Marker],
@@ -15,7 +16,8 @@ pub struct Asking<'a> {
 }
 
 impl Asking<'_> {
-    /// Refusals 1 to 4, which change no lent byte. `others` are the sheets lent beside the label sheet.
+    /// Refusals 1 to 4, which change no lent byte. `others` are the sheets lent beside the label
+    /// sheet.
     pub fn refusal(&self, others: &[&[u8]]) -> u8 {
         first_that_applies(&[
             (1, &|| self.map.bad_size()),

@@ -30,7 +30,8 @@ pub struct Assurance {
     pub labels: Vec<u8>,
 }
 
-/// The hops along the row or column to the nearest closed crossing that way, looked for one hop after another; 0 at a closed crossing.
+/// The hops along the row or column to the nearest closed crossing that way, looked for one hop
+/// after another; 0 at a closed crossing.
 pub fn clear(on: &Labelled, c: Crossing, way: Way) -> u8 {
     let mut hops = 0;
     while let Some(there) = on.map.onward(c, way, usize::from(hops)) {

@@ -12,7 +12,8 @@ pub struct Regioned {
     pub region: Vec<u8>,
 }
 
-/// What asking for a drive leaves: how much of the route is filled, both sheets, the whole route and the state.
+/// What asking for a drive leaves: how much of the route is filled, both sheets, the whole route
+/// and the state.
 #[derive(Clone, Debug, PartialEq, Eq)]
 pub struct Drove {
     pub refusal: u8,
@@ -23,8 +24,9 @@ pub struct Drove {
     pub state: u32,
 }
 
-/// For each crossing that a shortest drive from `from` towards `to` can come to: how many such beginnings end there. A number of the next hop is the
-/// sum over the crossings before it. The largest is 126 over 63, which 128 bits hold.
+/// For each crossing that a shortest drive from `from` towards `to` can come to: how many such
+/// beginnings end there. A number of the next hop is the sum over the crossings before it. The
+/// largest is 126 over 63, which 128 bits hold.
 pub fn beginnings(on: &Labelled, from: Crossing, to: Crossing) -> BTreeMap<Crossing, u128> {
     let mut front = BTreeMap::from([(from, 1u128)]);
     let mut all = front.clone();
@@ -48,8 +50,9 @@ fn nearer(on: &Labelled, c: Crossing, to: Crossing) -> impl Iterator<Item = Cros
         .filter(move |&n| on.open(n) && n.distance(to) + 1 == c.distance(to))
 }
 
-/// The crossings on at least one shortest drive between two open crossings: those with a beginning from s and a beginning from d. The drives through
-/// a crossing are as many as the product of the two.
+/// The crossings on at least one shortest drive between two open crossings: those with a beginning
+/// from s and a beginning from d. The drives through a crossing are as many as the product of the
+/// two.
 pub fn region_of(on: &Labelled, s: Crossing, d: Crossing) -> Crossings {
     let from_s = beginnings(on, s, d);
     let from_d = beginnings(on, d, s);

@@ -41,7 +41,8 @@ pub fn is_blank(byte: u8) -> bool {
     [0x20, 0x09, 0x0D, 0x0A].contains(&byte)
 }
 
-/// Where the comment that starts at `at` ends: after the next CR or LF. None if no comment starts there or it has no end.
+/// Where the comment that starts at `at` ends: after the next CR or LF. None if no comment starts
+/// there or it has no end.
 fn comment(file: &[u8], at: usize) -> Option<usize> {
     if *file.get(at)? != b'#' {
         return None;
@@ -90,8 +91,8 @@ fn header(file: &[u8]) -> Option<(Map, usize)> {
     is_blank(*file.get(at)?).then_some((Map { width, height }, at + 1))
 }
 
-/// A plain raster as its digits in order, or the first fault met: a foreign byte before the last digit, the end before it, or more than blanks
-/// after it.
+/// A plain raster as its digits in order, or the first fault met: a foreign byte before the last
+/// digit, the end before it, or more than blanks after it.
 fn plain(map: Map, raster: &[u8]) -> Result<Vec<bool>, u8> {
     let mut digits = Vec::new();
     for &byte in raster {
@@ -130,7 +131,8 @@ fn raw(map: Map, raster: &[u8]) -> Result<Vec<bool>, u8> {
     Ok(bits)
 }
 
-/// The map that a file is, or the refusal: 12, 13 in the header, 1, then 13, 14 or 15 in the raster.
+/// The map that a file is, or the refusal: 12, 13 in the header, 1, then 13, 14 or 15 in the
+/// raster.
 pub fn picture(file: &[u8]) -> Result<Picture, u8> {
     let raster = match file.get(..2) {
         Some(b"P1") => Raster::Plain,

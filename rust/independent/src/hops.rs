@@ -4,7 +4,8 @@ use crate::distances::is_assured;
 use crate::map::Crossing;
 use crate::refusals::{first_that_applies, DONE};
 
-/// What asking for the hops homeward leaves: the crossings to which a permitted hop goes, none at home.
+/// What asking for the hops homeward leaves: the crossings to which a permitted hop goes, none at
+/// home.
 #[derive(Clone, Debug, PartialEq, Eq)]
 pub struct Homeward {
     pub refusal: u8,

@@ -24,8 +24,8 @@ pub fn rocks(used: &[Marker]) -> Crossings {
     used.iter().map(|m| m.crossing()).collect()
 }
 
-/// The smallest set that holds all rocks and every crossing with two or more closed neighbours: from the rocks, whole-map sweeps until one adds
-/// nothing.
+/// The smallest set that holds all rocks and every crossing with two or more closed neighbours:
+/// from the rocks, whole-map sweeps until one adds nothing.
 pub fn closed(map: Map, rocks: &Crossings) -> Crossings {
     let mut closed = rocks.clone();
     loop {
@@ -41,7 +41,8 @@ pub fn closed(map: Map, rocks: &Crossings) -> Crossings {
     }
 }
 
-/// The groups: whole sets of closed crossings connected through neighbours, each found by flooding from one of its crossings.
+/// The groups: whole sets of closed crossings connected through neighbours, each found by flooding
+/// from one of its crossings.
 pub fn groups(map: Map, closed: &Crossings) -> Vec<Crossings> {
     let mut left = closed.clone();
     let mut groups = Vec::new();

@@ -27,7 +27,8 @@ pub struct Counted {
     pub list: Vec<Marker>,
 }
 
-/// Refusal 3: count over the limit or over the list lent, an id 0, ids not rising, or a marker off the map.
+/// Refusal 3: count over the limit or over the list lent, an id 0, ids not rising, or a marker off
+/// the map.
 pub fn bad_list(map: Map, list: &[Marker], count: usize) -> bool {
     if count > MOST || count > list.len() {
         return true;

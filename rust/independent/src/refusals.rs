@@ -1,4 +1,5 @@
-//! "Refusal numbers and their order": a call's refusals as a list of conditions, looked at one after another.
+//! "Refusal numbers and their order": a call's refusals as a list of conditions, looked at one
+//! after another.
 
 /// A refusal number and whether it applies. A condition may count on those before it not applying.
 pub type Condition<'a> = (u8, &'a dyn Fn() -> bool);

@@ -1,6 +1,6 @@
--- `drive` meets its promise: the answer over the label sheet's marks is that over the closed crossings.
-use mathlib.Core.Path.{refl}
-use Rattle.askings.proofs.Bridge.{marked-alike, drive-answer-same}
+-- `drive` meets its promise: what asking for a drive makes over the label sheet's marks, as its
+-- number and values.
+use Rattle.askings.proofs.Bridge.{drive-before, drive-told}
 use borrow.Author.Needs.{needs}
 use Rattle.askings.proofs.drive.Statement.{statement}
 use Rattle.askings.proofs.drive.Tie as tie
@@ -9,24 +9,27 @@ no-crossings-requires : tie.Need-no-crossings-requires
 no-crossings-requires c κs = search needs
 
 returns : tie.Need-returns
-returns c = record { refused = λ _. (refl, refl, refl, refl, c .no-crossings .ensures); done = λ e. absurd (c .before .if1 .taken e) }
+returns c = drive-before (c .before .if1 .taken) (c .before .before .before .before .before .pre .asked .first .early) (c .no-crossings .ensures)
 
 label-requires : tie.Need-label-requires
-label-requires c κs = c .before .before .before .before .before .pre .stamped (c .before .if1 .left)
+label-requires c κs = c .before .before .before .before .before .pre .asked .first .stamped (c .before .if1 .left)
 
-drive-requires : tie.Need-drive-requires
-drive-requires c κs =
+fill-requires : tie.Need-fill-requires
+fill-requires c κs =
     let labelled = c .before .before .before .before .before .before in
     let none = labelled .before .before in
     let pre = none .before .before .before .before .pre in
-    let on = pre .on (none .if1 .left) in
+    let z = none .if1 .left in
     record {
-      sides = pre .stamped (none .if1 .left) .sides;
+      sides = pre .asked .first .stamped z .sides;
       size = labelled .label .ensures .sheet .size;
-      region = pre .size (none .if1 .left);
-      from = on .0;
-      to = on .1;
+      region = pre .size z;
+      from = pre .asked .from z;
+      to = pre .asked .to z;
     }
+
+drive-told-requires : tie.Need-drive-told-requires
+drive-told-requires c κs = search needs
 
 same-length : tie.Need-same-length
 same-length c = search needs
@@ -39,13 +42,9 @@ same-length-3 c = search needs
 
 returns-2 : tie.Need-returns-2
 returns-2 c =
-    let answered = c .before .before .before .before in
-    let labelled = answered .before .before .before .before .before .before .before in
-    let sheet = labelled .label .ensures .sheet in
-    record {
-      refused = λ n. absurd (n (labelled .before .before .if1 .left));
-      done = λ _. (sheet, drive-answer-same _ _ (marked-alike sheet) (answered .drive .ensures));
-    }
+    let made = c .before .before .before .before .before .before in
+    let labelled = made .before .before .before .before .before .before .before in
+    drive-told (labelled .label .ensures .sheet) (labelled .before .before .if1 .left) (made .fill .result) (made .fill .ensures) (c .drive-told .ensures)
 
 pub drive-spec : {M : Type 1} → statement M
 drive-spec =
@@ -54,7 +53,8 @@ drive-spec =
     no-crossings-requires
     returns
     label-requires
-    drive-requires
+    fill-requires
+    drive-told-requires
     same-length
     same-length-2
     same-length-3

@@ -1,11 +1,22 @@
--- `label` meets its promise: at a refusal nothing was called, and else the labelling's promise is the one asked for.
+-- `label` meets its promise: at a refusal nothing was called, and else the labelling's promise is
+-- the one asked for.
 use mathlib.Core.Path.{refl}
+use mathlib.Core.Logic.{inl, inr}
+use native.Mathlib.Omega.{arith}
+use Rattle.calls.specs.AfterLaws.{labels-kept, labels-made}
+use Rattle.askings.proofs.Bridge.{early-of}
 use borrow.Author.Needs.{needs}
 use Rattle.askings.proofs.label.Statement.{statement}
 use Rattle.askings.proofs.label.Tie as tie
 
 returns : tie.Need-returns
-returns c = record { refused = λ _. (refl, refl); done = λ e. absurd (c .if1 .taken e) }
+returns c =
+    record {
+      given = inl (c .if1 .taken, refl);
+      labels-after = labels-kept (early-of (c .if1 .taken) (c .before .before .pre .early));
+      refused = λ _. refl;
+      done = λ e. absurd (c .if1 .taken e);
+    }
 
 label-requires : tie.Need-label-requires
 label-requires c κs = c .before .before .before .pre .stamped (c .before .if1 .left)
@@ -17,7 +28,12 @@ returns-2 : tie.Need-returns-2
 returns-2 c =
     let labelled = c .before .before in
     let told = labelled .label .ensures in
-    record { refused = λ n. absurd (n (labelled .before .before .if1 .left)); done = λ _. (refl, told .sheet, told .rocks, told .shut, told .groups) }
+    record {
+      given = inr (λ f. f (labelled .before .before .if1 .left), refl);
+      labels-after = labels-made (λ e. omega (arith, e .0)) (told .sheet);
+      refused = λ f. absurd (f refl);
+      done = λ _. record { rocks = told .rocks; shut = told .shut; groups = told .groups };
+    }
 
 pub label-spec : {M : Type 1} → statement M
 label-spec = tie.close (tie.spec returns label-requires same-length returns-2)

@@ -1,31 +1,44 @@
--- `measure` meets its promise: the four sheets over the label sheet's marks are those over the closed crossings.
-use mathlib.Core.Path.{refl, sym}
+-- `measure` meets its promise: the four sheets over the label sheet's marks are those over the
+-- closed crossings.
+use mathlib.Core.Path.{refl}
+use mathlib.Core.Logic.{inl, inr}
+use native.Mathlib.Omega.{arith}
+use Rattle.calls.specs.AfterLaws.{labels-kept, labels-made, distances-kept, distances-filled}
 use Rattle.field.specs.Workings.SameLaws.{distance-sheet-same}
-use Rattle.askings.proofs.Bridge.{marked-alike, labelled-fits}
+use Rattle.askings.proofs.Bridge.{early-of, marked-alike, labelled-fits}
 use borrow.Author.Needs.{needs}
 use Rattle.askings.proofs.measure.Statement.{statement}
 use Rattle.askings.proofs.measure.Tie as tie
 
 returns : tie.Need-returns
-returns c = record { number = refl; refused = λ _. (refl, refl, refl, refl, refl); done = λ e. absurd (c .if1 .taken e) }
+returns c =
+    let f = c .if1 .taken in
+    record {
+      given = inl (f, refl);
+      labels-after = labels-kept (early-of f (c .before .before .before .before .before .before .pre .first .early));
+      east-after = distances-kept f;
+      south-after = distances-kept f;
+      west-after = distances-kept f;
+      north-after = distances-kept f;
+    }
 
 label-requires : tie.Need-label-requires
 label-requires c κs =
     let none = c .before in
-    none .before .before .before .before .before .before .pre .stamped (none .if1 .left)
+    none .before .before .before .before .before .before .pre .first .stamped (none .if1 .left)
 
 measure-requires : tie.Need-measure-requires
 measure-requires c κs =
     let labelled = c .before .before .before .before .before .before .before in
     let none = labelled .before .before in
     let pre = none .before .before .before .before .before .before .pre in
-    let sizes = pre .sizes (none .if1 .left) in
+    let z = none .if1 .left in
     record {
-      fits = labelled-fits (labelled .label .ensures .sheet) (pre .stamped (none .if1 .left) .sides);
-      east = sizes .0;
-      south = sizes .1;
-      west = sizes .2;
-      north = sizes .3;
+      fits = labelled-fits (labelled .label .ensures .sheet) (pre .first .stamped (none .if1 .left) .sides);
+      east = pre .east z;
+      south = pre .south z;
+      west = pre .west z;
+      north = pre .north z;
     }
 
 same-length : tie.Need-same-length
@@ -52,15 +65,12 @@ returns-2 c =
     let alike = marked-alike sheet in
     let told = measured .measure .ensures in
     record {
-      number = sym (none .if1 .left);
-      refused = λ n. absurd (n (none .if1 .left));
-      done = λ _. (
-        sheet,
-        distance-sheet-same _ _ alike (told .east),
-        distance-sheet-same _ _ alike (told .south),
-        distance-sheet-same _ _ alike (told .west),
-        distance-sheet-same _ _ alike (told .north),
-      );
+      given = inr (λ f. f (none .if1 .left), refl);
+      labels-after = labels-made (λ e. omega (arith, e .0)) sheet;
+      east-after = distances-filled refl (distance-sheet-same _ _ alike (told .east));
+      south-after = distances-filled refl (distance-sheet-same _ _ alike (told .south));
+      west-after = distances-filled refl (distance-sheet-same _ _ alike (told .west));
+      north-after = distances-filled refl (distance-sheet-same _ _ alike (told .north));
     }
 
 pub measure-spec : {M : Type 1} → statement M

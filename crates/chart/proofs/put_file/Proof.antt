@@ -1,12 +1,12 @@
--- `put_file` meets its contract: the reader refuses the file, and its number is told; or the map that it finds is shown.
+-- `put_file` meets its contract: the reader refuses the file, and its number is told; or the map
+-- that it finds is shown.
 use native.Mathlib.Omega.{arith}
 use mathlib.Core.Path.{sym}
 use lib.Seq.{length-take-le}
-use Rattle.field.specs.Map.{side, Sides}
+use Rattle.field.specs.Map.{Sides}
 use Rattle.field.specs.Limits.{marker-slots, crossings-few, most-crossings-is}
 use Rattle.reader.specs.Promise.{Taken}
-use Rattle.chart.specs.Parts.{Short}
-use Rattle.chart.proofs.Reading.{reads-map, reads-fault, fault-text, taken-turn, map-text, text-few}
+use Rattle.chart.proofs.Reading.{reads-map, reads-refusal, refusal-text, taken-turn, map-text, text-few}
 use borrow.Author.Needs.{needs}
 use Rattle.chart.proofs.put_file.Statement.{statement}
 use Rattle.chart.proofs.put_file.Tie as tie
@@ -66,8 +66,7 @@ cast-put-refusal : tie.Need-cast-put-refusal
 cast-put-refusal c = search needs
 
 put-refusal-requires : tie.Need-put-refusal-requires
-unfolding Short side
-put-refusal-requires c κs = record { short = omega arith; room = omega (arith, start (refused (c .before .before)) .pre .room) }
+put-refusal-requires c κs = omega (arith, start (refused (c .before .before)) .pre .room)
 
 same-length : tie.Need-same-length
 same-length c = search needs
@@ -86,7 +85,7 @@ returns-2 c =
     let m = c .before .before in
     let g = m .before .before .before in
     let r = refused g .read in
-    fault-text (start (refused g) .pre .limit) (reads-fault (r .last .1 .1 .0) (omega arith) (r .ensures) (g .reading2 .given .1)) (m .put-refusal .ensures)
+    refusal-text (start (refused g) .pre .limit) (reads-refusal (r .last .1 .1 .0) (r .ensures) (g .reading2 .given .1)) (m .put-refusal .ensures)
 
 pub put-file-spec : {M : Type 1} → statement M
 put-file-spec =

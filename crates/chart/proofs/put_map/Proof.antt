@@ -1,10 +1,12 @@
--- `put_map` meets its contract: the sheet is stamped and labelled, and the first line and the picture follow each other in the output.
+-- `put_map` meets its contract: the sheet is stamped and labelled, and the first line and the
+-- picture follow each other in the output.
+use Rattle.chart.specs.Promise.{line-room}
 use native.Mathlib.Omega.{arith}
 use Prim.Native.Nat.{_+_, _*_, _≤_}
 use lib.ListN.{length}
 use Rattle.field.specs.Map.{side}
 use Rattle.chart.proofs.Putting.{part-put}
-use Rattle.chart.proofs.Showing.{side-short, count-short, map-put}
+use Rattle.chart.proofs.Showing.{map-put}
 use borrow.Author.Needs.{needs}
 use Rattle.chart.proofs.put_map.Statement.{statement}
 use Rattle.chart.proofs.put_map.Tie as tie
@@ -29,19 +31,7 @@ label-requires : tie.Need-label-requires
 label-requires c κs = search needs
 
 put-line-requires : tie.Need-put-line-requires
-put-line-requires c κs =
-    let l = c .before .before .before in
-    let a = start (turned l) .args in
-    let p = start (turned l) .pre in
-    let sides = p .turn .sides in
-    record {
-      width = side-short (a .w) (sides .most-w);
-      height = side-short (a .h) (sides .most-h);
-      rocks = count-short sides (l .label .ensures .rocks);
-      shut = count-short sides (l .label .ensures .shut);
-      groups = count-short sides (l .label .ensures .groups);
-      room = omega (arith, p .room);
-    }
+put-line-requires c κs = omega (arith, start (turned (c .before .before .before)) .pre .room)
 
 add-end : tie.Need-add-end
 unfolding side
@@ -78,7 +68,7 @@ returns c =
     let l = labelled (lined (c .before .before)) in
     let a = start (turned l) .args in
     let end = line .result + a .h * (a .w + 1) in
-    let reach : line .result ≤ 25 = omega (arith, line .ensures .put .size, line .ensures .right .few) in
+    let reach : line .result ≤ line-room = omega (arith, line .ensures .put .size, line .ensures .right .few) in
     let room : end ≤ length (line .last .0) = omega (arith, reach, start (turned l) .pre .room, line .kept .0) in
     let after : line .result ≤ end = omega arith in
     map-put (l .label .ensures) (a .bits .now) (turned l .turn .ensures) (line .ensures) (rows .ensures)

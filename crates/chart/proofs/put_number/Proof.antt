@@ -1,55 +1,50 @@
--- `put_number` meets its contract: as many digits as the number is printed with stand in their own part of the output, and the byte behind them.
-use Prim.Native.Nat.{ℕ, _+_, _-_, _<_}
+-- `put_number` meets its contract: as many digits as the number is printed with stand in their own
+-- part of the output, and the byte behind them.
+use Rattle.chart.specs.Promise.{most-printed}
+use Prim.Native.Nat.{ℕ, _+_, _-_, _<_, _≤_}
 use native.Mathlib.Omega.{arith}
 use mathlib.Core.Path.{_≡_, refl, ap, _∙_}
 use mathlib.Core.List.{List, [], _∷_, _++_, append-assoc}
 use lib.ListN.{length, take, set}
 use borrow.Rule.Slice.PartMut.{midOf, putMid}
 use Rattle.writer.specs.Digits.{digitsOf}
+use Rattle.writer.specs.DigitLaws.{digits-few}
 use Rattle.packing.proofs.Filling.{filled-as, filled-byte, filled-lent, filled-part}
 use Rattle.chart.specs.Parts.{Put}
 use Rattle.chart.proofs.Putting.{filled-self, filled-put}
+use Rattle.chart.specs.PrintLaws.{digits-printed}
 use borrow.Author.Needs.{needs}
 use Rattle.chart.proofs.put_number.Statement.{statement}
 use Rattle.chart.proofs.put_number.Tie as tie
-use Rattle.chart.proofs.put_number.Reads as reads
-use Rattle.chart.proofs.put_number.Lts as lts
-use Rattle.chart.proofs.digits.Reads as digits-reads
-use Rattle.writer.proofs.write_number.Reads as write-number-reads
 
--- src/lib.rt:33:20
-digits-requires : tie.Need-digits-requires
-digits-requires c κs = search needs
+digit-count-requires : tie.Need-digit-count-requires
+digit-count-requires c κs = search needs
 
--- src/lib.rt:33:15
+-- The number has no more digits than there is room for.
+few : (c : tie.After-digit-count) → c .digit-count .result ≤ most-printed
+few c = digits-few (c .digit-count .ensures) most-printed (omega arith) (omega arith)
+
 add-end : tie.Need-add-end
-add-end c = search needs
+add-end c = omega (arith, few c)
 
--- src/lib.rt:34:26
 sub-write-number : tie.Need-sub-write-number
 sub-write-number c = search needs
 
--- src/lib.rt:34:26
 part-write-number-start : tie.Need-part-write-number-start
 part-write-number-start c = search needs
 
--- src/lib.rt:34:26
 part-write-number-end : tie.Need-part-write-number-end
-part-write-number-end c = search needs
+part-write-number-end c = omega (arith, few c)
 
--- src/lib.rt:34:5
 write-number-requires : tie.Need-write-number-requires
 write-number-requires c κs = search needs
 
--- src/lib.rt:35:5
 slice-write-out : tie.Need-slice-write-out
-slice-write-out c = search needs
+slice-write-out c = omega (arith, few (c .before .before .before .before), c .before .before .write-number .kept .0)
 
--- src/lib.rt:36:5
 add-result : tie.Need-add-result
-add-result c = search needs
+add-result c = omega (arith, few (c .before .before .before .before))
 
--- src/lib.rt:29:1
 same-length : tie.Need-same-length
 same-length c = search needs
 
@@ -70,17 +65,18 @@ returns : tie.Need-returns
 returns c =
     let a = c .before .before .before .before .before .before .args in
     let p = c .before .before .before .before .before .before .pre in
-    let n = c .before .before .before .before .digits in
+    let n = c .before .before .before .before .digit-count in
     let num = c .before .before .write-number in
-    let room : a .at + n .result < length (a .out .now) = omega (arith, p .room, n .ensures .few) in
+    let digits = few (c .before .before .before .before) in
+    let room : a .at + n .result < length (a .out .now) = omega (arith, p, digits) in
     let lent = digits-lent (a .out .now) (num .last .0) (a .at) (n .result) (a .v) (a .mark) room (num .kept .0) in
     let is : num .last .0 ≡ digitsOf (n .result) (a .v) = num .ensures ∙ ap (λ (k : ℕ). digitsOf k (a .v)) lent in
     record {
       piece = num .last .0 ++ a .mark ∷ [];
       right = record {
         digits = num .last .0;
-        printed = rw is (n .ensures .printed);
-        few = omega (arith, num .kept .0, lent, n .ensures .few);
+        printed = rw is (digits-printed (n .ensures));
+        few = omega (arith, num .kept .0, lent, digits);
         is = refl;
       };
       put = number-put (a .out .now) (num .last .0) (a .at) (n .result) (a .v) (a .mark) room (num .kept .0);
@@ -90,7 +86,7 @@ pub put-number-spec : {M : Type 1} → statement M
 put-number-spec =
     tie.close
     (tie.spec
-    digits-requires
+    digit-count-requires
     add-end
     sub-write-number
     part-write-number-start

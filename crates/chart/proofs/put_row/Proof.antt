@@ -1,4 +1,5 @@
--- `put_row` meets its contract: after x turns the first x signs of the row stand at the front of its part, and LF goes behind the last.
+-- `put_row` meets its contract: after x turns the first x signs of the row stand at the front of
+-- its part, and LF goes behind the last.
 use Prim.Native.Nat.{ℕ, _+_, _*_, _-_, _<_, _≤_}
 use native.Mathlib.Omega.{arith}
 use mathlib.Core.Path.{_≡_, refl, sym, ap}

@@ -65,7 +65,8 @@ part-put-row-end c =
     let l = c .before .loop in
     omega (arith, row-ends c, filled-length _ _ _ (l .out) (l .inv .1))
 
--- The sheet has row y whole, and so it has row r: a slip between the two is refused by what stands drawn, not here.
+-- The sheet has row y whole, and so it has row r: a slip between the two is refused by what stands
+-- drawn, not here.
 put-row-requires : tie.Need-put-row-requires Inv-loop μ-loop
 put-row-requires c κs =
     let a = c .before .before .before .before .before .args in

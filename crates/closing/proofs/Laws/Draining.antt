@@ -1,5 +1,6 @@
--- Draining the stack, from the rocks to the labels. At first the rocks are closed and wait, and nothing is noted. When nothing waits any more, an
--- open crossing has noted each of its closed neighbours, so that it has at most one: what is closed is stable, and so is the smallest set.
+-- Draining the stack, from the rocks to the labels. At first the rocks are closed and wait, and
+-- nothing is noted. When nothing waits any more, an open crossing has noted each of its closed
+-- neighbours, so that it has at most one: what is closed is stable, and so is the smallest set.
 use mathlib.Core.Path.{_≡_, _∙_}
 use mathlib.Core.List.{List}
 use mathlib.Core.Logic.{_⊎_, inl, inr}

@@ -1,5 +1,5 @@
--- Looking around a crossing that is taken off the stack keeps what stays true. At first all its neighbours are excused; each look settles one
--- direction, and after the fourth nobody is excused.
+-- Looking around a crossing that is taken off the stack keeps what stays true. At first all its
+-- neighbours are excused; each look settles one direction, and after the fourth nobody is excused.
 use mathlib.Core.Path.{_≡_}
 use mathlib.Core.List.{List}
 use mathlib.Core.Logic.{_⊎_, inl, inr}

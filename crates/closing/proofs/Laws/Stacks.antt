@@ -1,4 +1,5 @@
--- Laws of the stack: what waits goes on waiting when a crossing is put on; that crossing waits then; and what is taken off is the last one put on.
+-- Laws of the stack: what waits goes on waiting when a crossing is put on; that crossing waits
+-- then; and what is taken off is the last one put on.
 use mathlib.Core.Path.{_≡_, sym, ap, _∙_}
 use mathlib.Core.List.{List}
 use mathlib.Core.Logic.{_⊎_, inl, inr}

@@ -1,6 +1,7 @@
--- One touch keeps what stays true while the stack is drained. The crossing (a, b) is touched with the note n, which names (x, y), closed so far.
--- Either it notes (x, y); or it has noted it before, or is closed; or it has noted another neighbour, so that two are closed: then it is shut
--- and put on the stack. In each case it knows of (x, y) afterwards, and need not be excused.
+-- One touch keeps what stays true while the stack is drained. The crossing (a, b) is touched with
+-- the note n, which names (x, y), closed so far. Either it notes (x, y); or it has noted it before,
+-- or is closed; or it has noted another neighbour, so that two are closed: then it is shut and put
+-- on the stack. In each case it knows of (x, y) afterwards, and need not be excused.
 use mathlib.Core.Path.{_≡_, _∙_}
 use mathlib.Core.List.{List}
 use mathlib.Core.Logic.{_⊎_, inl, inr, ⊎-elim}

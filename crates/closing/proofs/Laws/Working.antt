@@ -1,6 +1,8 @@
--- What stays true while the stack is drained. Everything closed so far is closed. And an open crossing beside a closed one knows of it: it has
--- noted that neighbour, or the neighbour still waits on the stack to be looked around. While a crossing is being looked around, some of its
--- neighbours do not know of it yet, and are excused. Touching one keeps all this, and settles one excuse.
+-- What stays true while the stack is drained. Everything closed so far is closed. And an open
+-- crossing beside a closed one knows of it: it has noted that neighbour, or the neighbour still
+-- waits on the stack to be looked around. While a crossing is being looked around, some of its
+-- neighbours do not know of it yet, and are excused. Touching one keeps all this, and settles one
+-- excuse.
 use mathlib.Core.Path.{_≡_, refl, sym, _∙_}
 use mathlib.Core.List.{List}
 use mathlib.Core.Logic.{_⊎_, inl, inr}
@@ -67,7 +69,8 @@ module _ (w h a b v : ℕ) (s : List ℕ) (size : length s ≡ h * w) (o : On w 
       go (here d e q) = inr (d, e, rw q at (p .shown))
       go (elsewhere n q) = inl (record { on = p .on; shown = rw q at (p .shown) })
 
-  -- The sheet stays as it must be, if (a, b) is shut only where it is closed, and a note names a closed neighbour.
+  -- The sheet stays as it must be, if (a, b) is shut only where it is closed, and a note names a
+  -- closed neighbour.
   module _ (R : ℕ → ℕ → Type 0) (S : Sheet R w h s) (high : 1 < v) (c : v ≡ 2 → Closed R w h a b) (m : 2 < v → Named w h s v a b) where
     stones-keep : (x y : ℕ) → RockOn R w h x y → at t w x y ≡ 1
     stones-keep x y r = go (written s v size (r .on) o)

@@ -1,4 +1,5 @@
--- `closing::drain` meets its contract. The loop's invariant is `Drains`; what is left to do falls at each turn.
+-- `closing::drain` meets its contract. The loop's invariant is `Drains`; what is left to do falls
+-- at each turn.
 use mathlib.Core.Path.{_≡_, refl}
 use Prim.Native.Nat.{_+_, _-_}
 use native.Mathlib.Omega.{arith}

@@ -1,4 +1,5 @@
--- `closing::gather_row` meets its contract. The loop's invariant: the crossings before (x, y) are gathered.
+-- `closing::gather_row` meets its contract. The loop's invariant: the crossings before (x, y) are
+-- gathered.
 use mathlib.Core.Path.{_≡_, refl}
 use Prim.Native.Nat.{_+_, _*_, _-_, _≤_}
 use native.Mathlib.Omega.{arith}

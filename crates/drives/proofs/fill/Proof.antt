@@ -1,8 +1,8 @@
--- `fill` meets its promise. What `region` finds settles the first two refusals, the route's length the third, and the drive that is written is
--- the chooser's.
-use mathlib.Core.Path.{refl}
+-- `fill` meets its promise. What `region` finds settles the first two refusals, the route's length
+-- the third, and the drive that is written is the chooser's.
 use native.Mathlib.Omega.{arith}
-use Rattle.drives.proofs.RouteLaws.{dist-small, written-filling}
+use Rattle.drives.proofs.RouteLaws.{dist-small}
+use Rattle.drives.proofs.Making.{makes-closed, makes-none, made-sheet, made-drive, makes-short, makes-drive}
 use borrow.Author.Needs.{needs}
 use Rattle.drives.proofs.fill.Statement.{statement}
 use Rattle.drives.proofs.fill.Tie as tie
@@ -42,7 +42,7 @@ returns : tie.Need-returns
 returns c =
     let e = c .before .before .before in
     let f = rw (e .enum-told3 .given .1) at (e .before .before .before .before .region .ensures) in
-    (f .0, f .1, omega (arith, c .if1 .taken, c .before .before .offset .ensures, c .before .offset2 .ensures), refl)
+    makes-short f (omega (arith, c .if1 .taken, c .before .before .offset .ensures, c .before .offset2 .ensures))
 
 write-drive-requires : tie.Need-write-drive-requires
 write-drive-requires c κs =
@@ -52,10 +52,10 @@ write-drive-requires c κs =
     let p = r .before .before .before .before .before .pre in
     let f = rw (e .enum-told3 .given .1) at (r .region .ensures) in
     record {
-      looked = record { sides = p .sides; size = f .1 .size; from = p .to; to = p .from };
+      looked = record { sides = p .sides; size = made-sheet f .size; from = p .to; to = p .from };
       closed = r .before .before .before .before .before .args .s .now;
-      sheet = f .1;
-      some = f .0;
+      sheet = made-sheet f;
+      some = made-drive f (p .from) (p .to);
       room = omega (arith, c .before .before .if1 .left, o .before .offset .ensures, o .offset2 .ensures);
     }
 
@@ -64,16 +64,14 @@ same-length-2 c = search needs
 
 returns-2 : tie.Need-returns-2
 returns-2 c =
-    let f = rw (c .enum-told .given .1) at (c .before .before .before .before .region .ensures) in
-    (f .0, f .1, refl)
+    makes-closed (rw (c .enum-told .given .1) at (c .before .before .before .before .region .ensures))
 
 same-length-3 : tie.Need-same-length-3
 same-length-3 c = search needs
 
 returns-3 : tie.Need-returns-3
 returns-3 c =
-    let f = rw (c .enum-told2 .given .1) at (c .before .before .before .before .region .ensures) in
-    (f .0, f .1, refl)
+    makes-none (rw (c .enum-told2 .given .1) at (c .before .before .before .before .region .ensures))
 
 same-length-4 : tie.Need-same-length-4
 same-length-4 c = search needs
@@ -88,11 +86,9 @@ returns-4 c =
     let o = l .before in
     let e = o .before .before in
     let r = e .before .before .before .before in
-    let f = rw (e .enum-told3 .given .1) at (r .region .ensures) in (
-      f .0,
-      f .1,
-      written-filling _ _ _ _ _ _ _ _ _ _ _ _ _ (f .1) (f .0) (omega (arith, o .before .offset .ensures, o .offset2 .ensures)) (l .if1 .left) (d .write-drive .ensures),
-    )
+    let p = r .before .before .before .before .before .pre in
+    let f = rw (e .enum-told3 .given .1) at (r .region .ensures) in
+    makes-drive f (made-drive f (p .from) (p .to)) (omega (arith, o .before .offset .ensures, o .offset2 .ensures)) (l .if1 .left) (d .write-drive .ensures)
 
 pub fill-spec : {M : Type 1} → statement M
 fill-spec =

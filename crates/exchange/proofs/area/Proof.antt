@@ -1,8 +1,9 @@
--- `area` meets its contract: a map within the limits has a product within the limit's square. Assumes nothing.
+-- `area` meets its contract: a map within the limits has a product within the limit's square.
+-- Assumes nothing.
 use mathlib.Core.Path.{refl}
 use native.Mathlib.Omega.{arith}
 use Rattle.field.specs.Limits.{most-crossings-is, crossings-few}
-use Rattle.judging.proofs.Told.{told-no, told-yes}
+use Rattle.sheets.proofs.Told.{told-no, told-yes}
 use borrow.Author.Needs.{needs}
 use Rattle.exchange.proofs.area.Statement.{statement}
 use Rattle.exchange.proofs.area.Tie as tie

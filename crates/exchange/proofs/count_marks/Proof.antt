@@ -1,4 +1,5 @@
--- `count_marks` meets its contract. The loop's invariant: the marks of the front that is passed are counted. The measure is what is left of the sheet.
+-- `count_marks` meets its contract. The loop's invariant: the marks of the front that is passed are
+-- counted. The measure is what is left of the sheet.
 use mathlib.Core.Path.{_≡_, refl, ap, _∙_}
 use mathlib.Core.List.{[]}
 use mathlib.Core.Logic.{⊎-elim}

@@ -1,5 +1,6 @@
--- `marker_of` meets its contract: a place on a map within the limits has a column and a row that fit a marker's fields. Each cast is told of all three
--- numbers, so that a marker with one in another's place is refused for what it says and not for its size.
+-- `marker_of` meets its contract: a place on a map within the limits has a column and a row that
+-- fit a marker's fields. Each cast is told of all three numbers, so that a marker with one in
+-- another's place is refused for what it says and not for its size.
 use mathlib.Core.Path.{refl}
 use native.Mathlib.Omega.{arith}
 use Rattle.field.specs.Limits.{side-is, crossings-few}

@@ -1,5 +1,5 @@
--- `next_rock` meets its contract. The loop's invariant: no crossing passed is a rock, and there is one ahead, so that the end of the bits is never met. The
--- measure is what is left of them.
+-- `next_rock` meets its contract. The loop's invariant: no crossing passed is a rock, and there is
+-- one ahead, so that the end of the bits is never met. The measure is what is left of them.
 use Prim.Native.Nat.{_≤_, _-_}
 use native.Mathlib.Omega.{arith}
 use borrow.Author.Needs.{needs}

@@ -1,10 +1,11 @@
--- Any two groups are at least three hops apart: two closed crossings at most two hops apart are neighbours, or have a crossing between them, which
--- has two closed neighbours and so is closed. How far two groups are apart is read off their rectangles.
+-- Any two groups are at least three hops apart: two closed crossings at most two hops apart are
+-- neighbours, or have a crossing between them, which has two closed neighbours and so is closed.
+-- How far two groups are apart is read off their rectangles.
 use mathlib.Core.Path.{_≡_, refl, sym}
 use mathlib.Core.Logic.{_↔_}
 use Prim.Native.Nat.{ℕ, _≤_}
 use native.Mathlib.Omega.{arith}
-use native.Mathlib.Decide.{ℕ-discrete, map-dec}
+use native.Mathlib.Decide.{ℕ-discrete}
 use Rattle.field.specs.Map.{On, OnMap, Near, dist}
 use Rattle.field.specs.Labels.{Stable}
 use Rattle.field.specs.Groups.{Linked, here, step, GroupsApart}
@@ -14,7 +15,6 @@ use Rattle.field.specs.Workings.AxisLaws.{hop-step, hop-nearer, hop-belo
 use Rattle.field.specs.Workings.GridLaws.{dist-none, dist-zero, dist-apart, dist-near, near-turned, step-row, step-column}
 use Rattle.field.specs.Geometry.Shapes.{Within, Rectangle, rectanglesApart}
 use Rattle.field.specs.Geometry.Links.{linked-to, linked-sym, linked-trans}
-use Rattle.field.specs.Geometry.Rectangles.{group-rectangle}
 use Rattle.field.specs.Geometry.Offsets.{intervals-apart, Closest, closest}
 
 module _ (w h : ℕ) (C : ℕ → ℕ → Type 0) (on : OnMap w h C) (st : Stable w h C) where
@@ -98,15 +98,3 @@ module _ {C : ℕ → ℕ → Type 0} {x y a b : ℕ} (p : Rectangle C x y) (q :
 
   pub rectangles-apart : (n : ℕ) → GroupsApart C x y a b n ↔ (n ≡ rectanglesApart p q)
   rectangles-apart = only (GroupsApart C x y a b) (rectanglesApart p q) rectangles-as-near (λ n m. groups-apart-one)
-
--- So any two groups of C have a distance, and it can be told whether a number is it.
-module _ (w h : ℕ) (C : ℕ → ℕ → Type 0) (on : OnMap w h C) (st : Stable w h C) (dec : (x y : ℕ) → Dec (C x y)) where
-  module _ {x y a b : ℕ} (p : C x y) (q : C a b) where
-    abbrev pub groupsApart : ℕ
-    groupsApart = rectanglesApart (group-rectangle w h C on st dec x y p) (group-rectangle w h C on st dec a b q)
-
-    pub groups-apart : (n : ℕ) → GroupsApart C x y a b n ↔ (n ≡ groupsApart)
-    groups-apart = rectangles-apart (group-rectangle w h C on st dec x y p) (group-rectangle w h C on st dec a b q)
-
-    pub groups-apart-dec : (n : ℕ) → Dec (GroupsApart C x y a b n)
-    groups-apart-dec n = map-dec (groups-apart n .1) (groups-apart n .0) (ℕ-discrete n groupsApart)

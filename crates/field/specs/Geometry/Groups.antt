@@ -1,5 +1,6 @@
--- Each group has one crossing of lowest number, and no two: the southwest corner of its rectangle. So the groups are counted by the closed
--- crossings with neither a closed west nor a closed south neighbour.
+-- Each group has one crossing of lowest number, and no two: the southwest corner of its rectangle.
+-- So the groups are counted by the closed crossings with neither a closed west nor a closed south
+-- neighbour.
 use mathlib.Core.Path.{_≡_, refl, subst}
 use mathlib.Core.Logic.{_↔_, Dec·and}
 use Prim.Native.Nat.{ℕ, zero, suc, _+_, _-_, _<_, _≤_}
@@ -22,8 +23,9 @@ number-one w x y a b l m =
     GridLaws.number-one {h = suc (y + b)} (record { in-x = m; in-y = omega arith }) (record { in-x = l; in-y = omega arith })
 
 module _ (w h : ℕ) (C : ℕ → ℕ → Type 0) (on : OnMap w h C) (st : Stable w h C) where
-  -- A crossing has the lowest number of its group exactly if it is a corner: the group's row and column through it are closed as far as the group
-  -- reaches, so that nothing of it lies further west or further south.
+  -- A crossing has the lowest number of its group exactly if it is a corner: the group's row and
+  -- column through it are closed as far as the group reaches, so that nothing of it lies further
+  -- west or further south.
   pub lowest-is-corner : (x y : ℕ) → Lowest w C x y → Corner C x y
   lowest-is-corner x y t =
       record {

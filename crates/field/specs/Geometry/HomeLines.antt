@@ -1,5 +1,6 @@
--- Home's row and column, where home is assured for a place: every crossing of them that is nearer home than the place's own column or row is
--- open, since home's distance that way is not less; and what assures home on an axis assures it for every place between.
+-- Home's row and column, where home is assured for a place: every crossing of them that is nearer
+-- home than the place's own column or row is open, since home's distance that way is not less; and
+-- what assures home on an axis assures it for every place between.
 use mathlib.Core.Path.{_≡_, refl, sym, subst}
 use mathlib.Core.Logic.{_⊎_, inl, inr}
 use Prim.Native.Nat.{ℕ, _+_, _<_, _≤_}
@@ -18,14 +19,14 @@ use Rattle.field.specs.Geometry.Offsets.{gap-between}
 abbrev Short : ℕ → ℕ → Type 0
 Short k n = (n ≡ no-distance) ⊎ (k < n)
 
--- A distance that is enough for an offset is enough for each lesser one, which is short of it. This is all that is used of when a distance is
--- enough.
+-- A distance that is enough for an offset is enough for each lesser one, which is short of it. This
+-- is all that is used of when a distance is enough.
 enough-lesser : {offset n k : ℕ} → Enough offset n → k < offset → Enough k n × Short k n
 enough-lesser (nothing-that-way e) l = (nothing-that-way e, inl e)
 enough-lesser (nearer m) l = (nearer (omega arith), inr (omega arith))
 
--- On document 01's maps no two crossings of a line are as far apart as the number that marks no distance, so that it is no distance. On a
--- wider map it could be one.
+-- On document 01's maps no two crossings of a line are as far apart as the number that marks no
+-- distance, so that it is no distance. On a wider map it could be one.
 along-length : {w h : ℕ} (t : Way) (n x y a b : ℕ) → Sides w h → On w h x y → On w h a b → Along t n x y a b → n < no-distance
 along-length {w} {h} t n x y a b s =
     along-short t no-distance w h n x y a b (omega (arith, s .most-w, no-distance-far)) (omega (arith, s .most-h, no-distance-far))
@@ -65,7 +66,8 @@ module _ {D : Way → ℕ → Type 0} {up down : Way} {m p : ℕ} where
       g n (gap m v) v d (enough-lesser r (gap-between m p v b e) .1) (omega (arith, gap-above k, gap-turned m v))
 
 module _ {w h : ℕ} {C : ℕ → ℕ → Type 0} {hx hy : ℕ} (s : Sides w h) (on : OnMap w h C) (home : Open w h C hx hy) where
-  -- Of home's row, and of its column, nothing is closed from home on, up to the place's own column, or row.
+  -- Of home's row, and of its column, nothing is closed from home on, up to the place's own column,
+  -- or row.
   pub row-open : {x : ℕ} → Axis (λ t n. Clear C t hx hy n) eastward westward hx x → (u : ℕ) → Between hx u x → ¬ (u ≡ x) → ¬ C u hy
   row-open =
       axis-open (λ u. C u hy) (λ n k u d r e. clear-short s on home d k u hy r (e, refl)) (λ n k u d r e. clear-short s on home d k u hy r (e, refl))

@@ -1,5 +1,5 @@
--- Places on one line, a row or a column: going from one to another step by step, and how far a run of a set reaches. Each is an induction on
--- numbers.
+-- Places on one line, a row or a column: going from one to another step by step, and how far a run
+-- of a set reaches. Each is an induction on numbers.
 use mathlib.Core.Path.{_≡_, subst}
 use Prim.Native.Nat.{ℕ, zero, suc, _+_, _-_, _<_, _≤_}
 use native.Mathlib.Omega.{arith}
@@ -26,7 +26,8 @@ module _ (Q : ℕ → Type 0) where
       go (yes l) = subst Q (omega arith) (walk-up b (t - b) q (λ u v s m n. f u v s (omega arith)))
       go (no l) = walk-down t (b - t) (subst Q (omega arith) q) (λ u v s m n. f u v s (omega arith))
 
--- The run of P about x: all places from low to high are in P, and the next ones on both sides are not.
+-- The run of P about x: all places from low to high are in P, and the next ones on both sides are
+-- not.
 pub record Run (P : ℕ → Type 0) (x : ℕ) : Type 0 where
   pub low : ℕ
   pub high : ℕ

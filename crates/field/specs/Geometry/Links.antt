@@ -1,4 +1,5 @@
--- Chains of neighbours: both ways round, one after another, and with the map flipped over its diagonal.
+-- Chains of neighbours: both ways round, one after another, and with the map flipped over its
+-- diagonal.
 use mathlib.Core.Path.{_≡_, refl, sym, subst₂}
 use Prim.Native.Nat.{ℕ}
 use Rattle.field.specs.Map.{On, OnMap, Near, east, west, north, south}
@@ -29,7 +30,8 @@ module _ {C : ℕ → ℕ → Type 0} where
   linked-sym (here p q c) = here (sym p) (sym q) (moved C p q c)
   linked-sym (step l n c) = linked-trans (step (here refl refl c) (near-turned n) (linked-to l)) (linked-sym l)
 
--- The map flipped over its diagonal: rows become columns, so that a law of rows is a law of columns too.
+-- The map flipped over its diagonal: rows become columns, so that a law of rows is a law of columns
+-- too.
 abbrev pub Flipped : (ℕ → ℕ → Type 0) → ℕ → ℕ → Type 0
 Flipped C x y = C y x
 

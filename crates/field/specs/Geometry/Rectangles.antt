@@ -1,6 +1,7 @@
--- Every group is a full rectangle. A chain fills the rectangle between its ends, by induction on the chain: where it goes on by one hop, the new
--- row or column fills up from there, since each of its crossings has one closed neighbour in the row or column before and one in its own. So
--- the group of (x, y) is the product of the run of closed crossings of its row and that of its column.
+-- Every group is a full rectangle. A chain fills the rectangle between its ends, by induction on
+-- the chain: where it goes on by one hop, the new row or column fills up from there, since each of
+-- its crossings has one closed neighbour in the row or column before and one in its own. So the
+-- group of (x, y) is the product of the run of closed crossings of its row and that of its column.
 use mathlib.Core.Path.{_≡_, refl, sym}
 use mathlib.Core.Logic.{_⊎_, inl, inr, _↔_}
 use Prim.Native.Nat.{ℕ, _≤_}
@@ -16,7 +17,8 @@ use Rattle.field.specs.Geometry.Lines.{walk, Run, run, run-from, run-to}
 use Rattle.field.specs.Geometry.Links.{moved, Flipped, on-map-flipped, stable-flipped, linked-flipped}
 
 module _ (w h : ℕ) (C : ℕ → ℕ → Type 0) (on : OnMap w h C) (st : Stable w h C) where
-  -- Column q stands beside column p. Where p is closed from row b to row t, and q is closed at b, q is closed at t.
+  -- Column q stands beside column p. Where p is closed from row b to row t, and q is closed at b, q
+  -- is closed at t.
   column-fills : (p q b t : ℕ) → Step p q → ((v : ℕ) → Between b v t → C p v) → C q b → C q t
   column-fills p q b t s f c = walk (C q) b t c next
     where
@@ -45,7 +47,8 @@ module _ (w h : ℕ) (C : ℕ → ℕ → Type 0) (on : OnMap w h C) (st : Stabl
   fills-on x y a b c d (inl s) f k u v hu hv = fills-east-west w h C on st x y a b c (s .0) f (moved C refl (s .1) k) u v hu (omega arith)
   fills-on x y a b c d (inr s) f k u v hu hv = fills-north-south x y a b d (s .1) f (moved C (s .0) refl k) u v (omega arith) hv
 
-  -- Where a chain leads from (x, y) to (a, b), every crossing of the rectangle between them is in C.
+  -- Where a chain leads from (x, y) to (a, b), every crossing of the rectangle between them is in
+  -- C.
   pub span : {x y a b : ℕ} → Linked C x y a b → Filled C x y a b
   span (here p q c) u v hu hv = moved C (omega arith) (omega arith) c
   span {x} {y} (step {a} {b} {c} {d} l n k) u v hu hv = fills-on x y a b c d (near-step n) (span l) k u v hu hv
@@ -76,7 +79,8 @@ module _ (w h : ℕ) (C : ℕ → ℕ → Type 0) (on : OnMap w h C) (st : Stabl
           to-north = run-to column b (span-column w h C on st l);
         }
 
-    -- From (x, y) along its row to (a, y), and on along that column, which lies in the rectangle between (a, y) and (x, b).
+    -- From (x, y) along its row to (a, y), and on along that column, which lies in the rectangle
+    -- between (a, y) and (x, b).
     reached : (a b : ℕ) → Within (row .low) (row .high) (column .low) (column .high) a b → Linked C x y a b
     reached a b t = linked-along-column C to-column b (span-column w h C on st across)
       where

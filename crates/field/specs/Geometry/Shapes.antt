@@ -1,5 +1,5 @@
--- What the theorems speak of beyond document 01's own terms: rectangles, the distance of two of them, corners, and the stages of a sequence of
--- hops. C tells the closed crossings.
+-- What the theorems speak of beyond document 01's own terms: rectangles, the distance of two of
+-- them, corners, and the stages of a sequence of hops. C tells the closed crossings.
 use mathlib.Core.Path.{_≡_}
 use mathlib.Core.Logic.{_↔_}
 use Prim.Native.Nat.{ℕ, _+_, _-_, _≤_, min, max}
@@ -21,7 +21,8 @@ pub record Within (x₀ x₁ y₀ y₁ a b : ℕ) : Type 0 where
   pub from-south : y₀ ≤ b
   pub to-north : b ≤ y₁
 
--- The group of (x, y) is a full rectangle: a crossing is in the group exactly if it lies in the rectangle.
+-- The group of (x, y) is a full rectangle: a crossing is in the group exactly if it lies in the
+-- rectangle.
 pub record Rectangle (C : ℕ → ℕ → Type 0) (x y : ℕ) : Type 0 where
   pub x₀ : ℕ
   pub x₁ : ℕ
@@ -31,11 +32,13 @@ pub record Rectangle (C : ℕ → ℕ → Type 0) (x y : ℕ) : Type 0 where
   pub high : y₀ ≤ y₁
   pub exactly : (a b : ℕ) → Linked C x y a b ↔ Within x₀ x₁ y₀ y₁ a b
 
--- The hops from the nearer end of one interval to the nearer end of the other, or 0 if they meet: p to q, and r to s.
+-- The hops from the nearer end of one interval to the nearer end of the other, or 0 if they meet: p
+-- to q, and r to s.
 unfoldable pub intervalsApart : ℕ → ℕ → ℕ → ℕ → ℕ
 intervalsApart p q r s = (r - q) + (p - s)
 
--- How far apart two rectangles are: the gap between their x-intervals plus that between their y-intervals.
+-- How far apart two rectangles are: the gap between their x-intervals plus that between their
+-- y-intervals.
 abbrev pub rectanglesApart : {C : ℕ → ℕ → Type 0} {x y a b : ℕ} → Rectangle C x y → Rectangle C a b → ℕ
 rectanglesApart p q = intervalsApart (p .x₀) (p .x₁) (q .x₀) (q .x₁) + intervalsApart (p .y₀) (p .y₁) (q .y₀) (q .y₁)
 
@@ -45,7 +48,8 @@ pub record Corner (C : ℕ → ℕ → Type 0) (x y : ℕ) : Type 0 where
   pub no-west : (a : ℕ) → a + 1 ≡ x → ¬ C a y
   pub no-south : (b : ℕ) → b + 1 ≡ y → ¬ C x b
 
--- Of n permitted hops from (x, y) to (a, b), the first k lead to (c, d), and the others from there on.
+-- Of n permitted hops from (x, y) to (a, b), the first k lead to (c, d), and the others from there
+-- on.
 pub record Stage (w h : ℕ) (C : ℕ → ℕ → Type 0) (hx hy x y n a b k : ℕ) : Type 0 where
   pub c : ℕ
   pub d : ℕ

@@ -1,5 +1,6 @@
--- The theorems that need no code, of the closed crossings of any rocks: groups are rectangles at least three hops apart, and permitted hops lead
--- home. They hold of every stable set of crossings on the map, and are proved so in the files beside this one; the closed crossings are one.
+-- The theorems that need no code, of the closed crossings of any rocks: groups are rectangles at
+-- least three hops apart, and permitted hops lead home. They hold of every stable set of crossings
+-- on the map, and are proved so in the files beside this one; the closed crossings are one.
 use mathlib.Core.Path.{_≡_}
 use mathlib.Core.List.{List}
 use mathlib.Core.Logic.{_↔_}
@@ -30,7 +31,8 @@ module _ (R : ℕ → ℕ → Type 0) (w h : ℕ) (dec : (x y : ℕ) → Dec (Cl
   pub group-rectangle : (x y : ℕ) → C x y → Rectangle C x y
   group-rectangle = Rectangles.group-rectangle w h C (closed-on-map R w h) (closed-stable R w h) dec
 
-  -- Any two groups are at least three hops apart, and so are any two closed crossings that are not in one group.
+  -- Any two groups are at least three hops apart, and so are any two closed crossings that are not
+  -- in one group.
   pub groups-three-apart : {x y a b n : ℕ} → GroupsApart C x y a b n → ¬ Linked C x y a b → 3 ≤ n
   groups-three-apart = Apart.groups-three-apart w h C (closed-on-map R w h) (closed-stable R w h)
 
@@ -52,8 +54,8 @@ module _ (R : ℕ → ℕ → Type 0) (w h : ℕ) (dec : (x y : ℕ) → Dec (Cl
   pub linked-dec : (x y a b : ℕ) → Dec (Linked C x y a b)
   linked-dec = Groups.linked-dec w h C (closed-on-map R w h) (closed-stable R w h) dec
 
-  -- Each group has a crossing of lowest number, and no two. So counting these counts groups; and they are the closed crossings with neither a
-  -- closed west nor a closed south neighbour.
+  -- Each group has a crossing of lowest number, and no two. So counting these counts groups; and
+  -- they are the closed crossings with neither a closed west nor a closed south neighbour.
   pub lowest-some : (x y : ℕ) → C x y → (a : ℕ) × (b : ℕ) × Linked C x y a b × Lowest w C a b
   lowest-some = Groups.lowest-some w h C (closed-on-map R w h) (closed-stable R w h) dec
 
@@ -73,17 +75,20 @@ module _ (R : ℕ → ℕ → Type 0) (w h : ℕ) (dec : (x y : ℕ) → Dec (Cl
   pub groups-one : {n m : ℕ} → Groups w h C n → Groups w h C m → n ≡ m
   groups-one = count-one w h
 
-  -- The way home. Home is (hx, hy), and the map is of document 01's size: on a wider one the mark for no distance could be a distance.
+  -- The way home. Home is (hx, hy), and the map is of document 01's size: on a wider one the mark
+  -- for no distance could be a distance.
   module _ (sides : Sides w h) (hx hy : ℕ) where
-    -- From an assured place other than home there is a permitted hop, and after any permitted hop home is assured again.
+    -- From an assured place other than home there is a permitted hop, and after any permitted hop
+    -- home is assured again.
     pub home-hop : {x y : ℕ} → Assured w h C hx hy x y → Apart x y hx hy → (a : ℕ) × (b : ℕ) × Permitted w h C hx hy x y a b
     home-hop = WayHome.home-hop w h sides C (closed-on-map R w h) (closed-stable R w h) dec hx hy
 
     pub hop-assured : {x y a b : ℕ} → Assured w h C hx hy x y → Permitted w h C hx hy x y a b → Assured w h C hx hy a b
     hop-assured = WayHome.hop-assured
 
-    -- Wherever a sequence of permitted hops leads from an assured place, the crossing is open and home is assured; hops taken and hops left make
-    -- the distance. The same holds at each stage of the sequence, which is such a sequence itself.
+    -- Wherever a sequence of permitted hops leads from an assured place, the crossing is open and
+    -- home is assured; hops taken and hops left make the distance. The same holds at each stage of
+    -- the sequence, which is such a sequence itself.
     pub taken-open : {x y n a b : ℕ} → Assured w h C hx hy x y → Taken w h C hx hy x y n a b → Open w h C a b
     taken-open s = WayHome.taken-open (s .place)
 
@@ -116,9 +121,6 @@ module _ (R : ℕ → ℕ → Type 0) (w h : ℕ) (no-rocks : (x y : ℕ) → On
   -- Without rocks nothing is closed: the empty set holds the rocks and is stable.
   pub no-rocks-none-closed : (x y : ℕ) → ¬ Closed R w h x y
   no-rocks-none-closed = smallest R w h (λ x y. ⊥) no-rocks (λ x y a b c d o n m t p q. p)
-
-  pub no-rocks-open : (x y : ℕ) → On w h x y → Open w h (Closed R w h) x y
-  no-rocks-open x y o = record { on = o; free = no-rocks-none-closed x y }
 
   -- So a sheet that labels every crossing rock or shut is not the labelling.
   pub all-closed-no-labelling : 1 ≤ w → 1 ≤ h → (s : List ℕ) → ((x y : ℕ) → On w h x y → ¬ (at s w x y ≡ 0)) → ¬ LabelSheet R w h s

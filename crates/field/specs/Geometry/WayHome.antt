@@ -1,6 +1,7 @@
--- The way home. If both hops homeward were closed, the place would have two closed neighbours and be closed itself; on home's own row or column
--- the assurance keeps the next hop open; and each permitted hop keeps the place assured. So permitted hops go on until home, and as each comes
--- one hop nearer, that takes as many as the distance.
+-- The way home. If both hops homeward were closed, the place would have two closed neighbours and
+-- be closed itself; on home's own row or column the assurance keeps the next hop open; and each
+-- permitted hop keeps the place assured. So permitted hops go on until home, and as each comes one
+-- hop nearer, that takes as many as the distance.
 use mathlib.Core.Path.{_≡_, refl, sym, ap, subst, subst₃}
 use Prim.Native.Nat.{ℕ, zero, suc, _+_, _-_, _≤_}
 use native.Mathlib.Omega.{arith}
@@ -46,7 +47,8 @@ module _ {w h : ℕ} {C : ℕ → ℕ → Type 0} {hx hy : ℕ} where
   taken-open o (none e p q) = moved (Open w h C) (sym p) (sym q) o
   taken-open o (hop l k e) = k .to
 
-  -- Each hop comes one hop nearer: hops taken and hops left make the distance, so that no sequence has more hops.
+  -- Each hop comes one hop nearer: hops taken and hops left make the distance, so that no sequence
+  -- has more hops.
   pub taken-count : {x y n a b : ℕ} → Taken w h C hx hy x y n a b → n + dist a b hx hy ≡ dist x y hx hy
   taken-count (none e p q) = omega (arith, ap (λ (i : ℕ). gap i hx) p, ap (λ (j : ℕ). gap j hy) q)
   taken-count (hop l k e) = omega (arith, taken-count l, k .homeward)
@@ -79,7 +81,8 @@ module _ (w h : ℕ) (sides : Sides w h) (C : ℕ → ℕ → Type 0) (on : OnMa
   Some x y = (a : ℕ) × (b : ℕ) × Permitted w h C hx hy x y a b
 
   module _ {x y : ℕ} (s : Assured w h C hx hy x y) where
-    -- The next crossing homeward along the row, and along the column, is a permitted hop if it is open.
+    -- The next crossing homeward along the row, and along the column, is a permitted hop if it is
+    -- open.
     hop-row : ¬ (x ≡ hx) → ¬ C (hopTo x hx) y → Some x y
     hop-row p n =
         let o : On w h (hopTo x hx) y = record { in-x = hop-below x hx w (s .place .on .in-x) (s .home .on .in-x); in-y = s .place .on .in-y } in

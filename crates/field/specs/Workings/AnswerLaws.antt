@@ -1,14 +1,13 @@
--- The hop call's tests on a sheet of the closed crossings: each tells whether its hop is permitted, every permitted hop is one of theirs, and so
--- the answer made of them is the answer.
+-- The hop call's tests on a sheet of the closed crossings: each tells whether its hop is permitted,
+-- every permitted hop is one of theirs, and so the answer made of them is the answer.
 use mathlib.Core.Path.{_≡_, refl, sym, _∙_}
 use mathlib.Core.Bool.{Bool, true, false, true≢false}
 use mathlib.Core.List.{List}
-use mathlib.Core.Logic.{_⊎_, inl, inr, _↔_, Iff·rfl, Iff·symm, Iff·trans, Dec·and, Dec·of-iff}
+use mathlib.Core.Logic.{_⊎_, inl, inr, _↔_, Iff·symm, Iff·trans, Dec·and}
 use Prim.Native.Nat.{ℕ}
 use native.Mathlib.Decide.{ℕ-discrete}
-use Rattle.field.specs.Workings.Tests.{only, test-dec, sum-dec, off-looks}
-use Rattle.field.specs.Map.{On, Apart}
-use Rattle.field.specs.Labels.{Open}
+use Rattle.field.specs.Workings.Tests.{only, off-looks}
+use Rattle.field.specs.Map.{Apart}
 use Rattle.field.specs.Hops.{Permitted, There, HopAnswer, Answers, at-home, just, both}
 use Rattle.field.specs.Workings.Sheet.{Draws}
 use Rattle.field.specs.Workings.Looking.{hopTo, eastWestOf, northSouthOf, answerOf, hopOf}
@@ -42,12 +41,6 @@ module _ (w h : ℕ) (C : ℕ → ℕ → Type 0) (s : List ℕ) (D : Draws w h 
       holds (inl (e, t)) = rw (e .0, e .1) (east-west-permitted .1 t)
       holds (inr (e, t)) = rw (e .0, e .1) (north-south-permitted .1 t)
 
-  pub permitted-dec : (a b : ℕ) → Dec (Permitted w h C hx hy x y a b)
-  permitted-dec a b =
-      Dec·of-iff (Iff·symm (permitted-looks a b))
-      (sum-dec (Dec·and (Dec·and (ℕ-discrete a (hopTo x hx)) (ℕ-discrete b y)) (test-dec (eastWestOf s w h hx x y) Iff·rfl))
-      (Dec·and (Dec·and (ℕ-discrete a x) (ℕ-discrete b (hopTo y hy))) (test-dec (northSouthOf s w h hy x y) Iff·rfl)))
-
   -- Where one test fails, the other's hop is the only one.
   row-alone : northSouthOf s w h hy x y ≡ false → (a b : ℕ) → Permitted w h C hx hy x y a b → ByRow hx x y a b
   row-alone f a b p = go (permitted-looks a b .0 p)
@@ -79,12 +72,8 @@ module _ (w h : ℕ) (C : ℕ → ℕ → Type 0) (s : List ℕ) (D : Draws w h 
       go false true p q = just x (hopTo y hy) (north-south-permitted .1 q) (column-alone p) refl
       go false false p q = at-home (home p q (Dec·and (ℕ-discrete x hx) (ℕ-discrete y hy))) refl
 
-  -- Where some hop is permitted unless the place is home, the answer names the hops that the tests tell.
+  -- Where some hop is permitted unless the place is home, the answer names the hops that the tests
+  -- tell.
   pub hop-looks : (Apart x y hx hy → (a : ℕ) × (b : ℕ) × Permitted w h C hx hy x y a b)
       → (r : HopAnswer) → (Answers w h C hx hy x y r ↔ r ≡ hopOf s w h hx hy x y)
   hop-looks some r = only (Answers w h C hx hy x y) (hopOf s w h hx hy x y) (answer-of some) (λ r r′. answers-one) r
-
-  -- The same of an open place and a home on the map.
-  pub answer-looks : Open w h C x y → (Apart x y hx hy → (a : ℕ) × (b : ℕ) × Permitted w h C hx hy x y a b) → On w h hx hy
-      → (r : HopAnswer) → (Answers w h C hx hy x y r ↔ r ≡ hopOf s w h hx hy x y)
-  answer-looks o some on = hop-looks some

@@ -1,5 +1,6 @@
--- Open crossings and assurance: the tests on a sheet of the closed crossings tell exactly what the meanings say, so both can be decided. An axis
--- is looked at by itself, over any two ways, and serves for east-west and north-south.
+-- Open crossings and assurance: the tests on a sheet of the closed crossings tell exactly what the
+-- meanings say, so both can be decided. An axis is looked at by itself, over any two ways, and
+-- serves for east-west and north-south.
 use mathlib.Core.Path.{_≡_, refl, sym, _∙_}
 use mathlib.Core.Bool.{Bool, true, _&&_}
 use mathlib.Core.List.{List}
@@ -18,8 +19,9 @@ use Rattle.field.specs.Workings.Looking.{clearOf, enoughOf, axisOf, open
 use Rattle.field.specs.Workings.AxisLaws.{Order, less, same, more, order}
 use Rattle.field.specs.Workings.ClearLaws.{clear-looks}
 
--- The one law that opens the comparison of the offset with home's distance. "Less than" is "one more is at most", in the meaning and in the
--- test, so the proof is the same whichever of the two stands in both.
+-- The one law that opens the comparison of the offset with home's distance. "Less than" is "one
+-- more is at most", in the meaning and in the test, so the proof is the same whichever of the two
+-- stands in both.
 pub enough-looks : (offset n : ℕ) → (Enough offset n ↔ enoughOf offset n ≡ true)
 unfolding enoughOf
 enough-looks offset n = (passes, or-case (eqb n no-distance) _ (λ e. nothing-that-way (eqb-true _ _ e)) (λ e. nearer (leb-true _ _ e)))

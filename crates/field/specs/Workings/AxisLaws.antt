@@ -1,5 +1,6 @@
--- Laws of one axis: which of two places on it comes first, the next place, the offset, and one hop from a place towards another. Each is
--- arithmetic, and what is said of crossings follows from these.
+-- Laws of one axis: which of two places on it comes first, the next place, the offset, and one hop
+-- from a place towards another. Each is arithmetic, and what is said of crossings follows from
+-- these.
 use mathlib.Core.Path.{_≡_, sym}
 use mathlib.Core.Logic.{_≢_}
 use Prim.Native.Nat.{ℕ, _+_, _-_, _<_, _≤_}
@@ -36,8 +37,9 @@ pub step-other : {p a : ℕ} → Step p a → a ≢ p
 step-other (up e) = omega arith
 step-other (down e) = omega arith
 
--- The offset is 0 between a place and itself and nowhere else, the same both ways, no longer than by a detour, and what is to be added to the
--- lower place. Places with offset 1 are next to each other.
+-- The offset is 0 between a place and itself and nowhere else, the same both ways, no longer than
+-- by a detour, and what is to be added to the lower place. Places with offset 1 are next to each
+-- other.
 pub gap-none : {a b : ℕ} → a ≡ b → gap a b ≡ 0
 unfolding gap
 gap-none e = omega arith
@@ -89,7 +91,8 @@ pub step-gap : {p a : ℕ} (d : ℕ) → Step p a → OneApart (gap a d) (gap p 
 step-gap {p} {a} d (up e) = gap-up a p d e
 step-gap {p} {a} d (down e) = apart-turned (gap-up p a d (sym e))
 
--- One hop from p towards d along an axis: of the two places next to p, one is nearer d, and that is where the hop goes.
+-- One hop from p towards d along an axis: of the two places next to p, one is nearer d, and that is
+-- where the hop goes.
 pub hop-up : (p d : ℕ) → p < d → hopTo p d ≡ p + 1
 unfolding hopTo
 hop-up p d l = rw (lt-ltb p d l)

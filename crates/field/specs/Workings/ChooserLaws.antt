@@ -1,5 +1,6 @@
--- Laws of the chooser. The candidates at a crossing are at most two, the hop along its row and the hop along its column; so a choice, and with
--- it the whole drive and the state after it, is fixed by the crossing and the state. Inside the region there is always a candidate.
+-- Laws of the chooser. The candidates at a crossing are at most two, the hop along its row and the
+-- hop along its column; so a choice, and with it the whole drive and the state after it, is fixed
+-- by the crossing and the state. Inside the region there is always a candidate.
 use mathlib.Core.Path.{_≡_, refl, sym, subst₃, ap, _∙_}
 use mathlib.Core.List.{List, _∷_}
 use mathlib.Core.Logic.{_⊎_, inl, inr}
@@ -24,7 +25,8 @@ top-bit z = go (decLt (top (drawn z)) 1)
     go (no l) = inr (omega arith)
 
 module _ (w h : ℕ) (C : ℕ → ℕ → Type 0) (sx sy dx dy : ℕ) where
-  -- A candidate is one of the two hops towards d, and a hop towards d into the region is a candidate.
+  -- A candidate is one of the two hops towards d, and a hop towards d into the region is a
+  -- candidate.
   pub candidate-toward : {x y a b : ℕ} → Candidate w h C sx sy dx dy x y a b → Toward dx dy x y a b
   candidate-toward k = nearer-toward dx dy (k .near) (k .nearer)
 

@@ -1,17 +1,18 @@
--- The chooser's workings agree with its meaning. Two tests tell whether the hop along the row and the hop along the column are candidates; in the
--- region, and not at d, at least one is, and what the tests choose is the choice.
+-- The chooser's workings agree with its meaning. Two tests tell whether the hop along the row and
+-- the hop along the column are candidates; in the region, and not at d, at least one is, and what
+-- the tests choose is the choice.
 use mathlib.Core.Path.{_≡_, refl, sym, subst₂, subst₃}
 use mathlib.Core.Bool.{Bool, true, false, cond, false≢true}
 use mathlib.Core.List.{List}
 use mathlib.Core.Logic.{_↔_, _⊎_, inl, inr}
-use Prim.Native.Nat.{ℕ, zero, suc, _+_}
+use Prim.Native.Nat.{ℕ, zero, suc}
 use native.Mathlib.Omega.{arith}
 use lib.Dec.{ltb, eqb}
 use borrow.Author.Tests.{eqb-true, eqb-false}
 use Rattle.field.specs.Map.{Apart, dist}
 use Rattle.field.specs.Drives.{HasDrive, InRegion, RegionSheet}
 use Rattle.field.specs.Chooser.{drawn, top, Candidate, Chosen, alone, east-west, north-south, Driven, arrived, onward}
-use Rattle.field.specs.Workings.Tests.{cond-cases, off-looks, dec-test}
+use Rattle.field.specs.Workings.Tests.{cond-cases, off-looks}
 use Rattle.field.specs.Workings.Sheet.{lit}
 use Rattle.field.specs.Workings.Marks.{drawn-looks}
 use Rattle.field.specs.Workings.Looking.{hopTo}
@@ -80,7 +81,8 @@ module _ (w h : ℕ) (C : ℕ → ℕ → Type 0) (sx sy dx dy : ℕ) where
       go (by-row k s t) = false≢true (p .0 k)
       go (by-column k s t) = false≢true (q .0 k)
 
-  -- The test for a hop towards d that is there exactly if p is not q: u tells whether it leads into the region.
+  -- The test for a hop towards d that is there exactly if p is not q: u tells whether it leads into
+  -- the region.
   hop-test : {x y a b : ℕ} (p q : ℕ) → (¬ (p ≡ q) → Toward dx dy x y a b) → (Toward dx dy x y a b → ¬ (p ≡ q)) → (u : Bool)
       → (InRegion w h C sx sy dx dy a b ↔ u ≡ true) → (Candidate w h C sx sy dx dy x y a b ↔ cond (eqb p q) false u ≡ true)
   hop-test p q f t u i = (
@@ -93,29 +95,6 @@ module _ (w h : ℕ) (C : ℕ → ℕ → Type 0) (sx sy dx dy : ℕ) where
 
   column-test : (x y : ℕ) (u : Bool) → (InRegion w h C sx sy dx dy x (hopTo y dy) ↔ u ≡ true) → (InColumn x y ↔ cond (eqb y dy) false u ≡ true)
   column-test x y = hop-test y dy (λ n. along-column n refl refl) (λ t. toward-column t refl .0)
-
--- At (x, y) in state z there is a choice, (a, b), which is in the region and one hop nearer d.
-pub record Choosing (w h : ℕ) (C : ℕ → ℕ → Type 0) (sx sy dx dy x y z : ℕ) : Type 0 where
-  pub a : ℕ
-  pub b : ℕ
-  pub state : ℕ
-  pub chosen : Chosen w h C sx sy dx dy x y z a b state
-  pub within : InRegion w h C sx sy dx dy a b
-  pub nearer : dist a b dx dy + 1 ≡ dist x y dx dy
-
-module _ (w h : ℕ) (C : ℕ → ℕ → Type 0) (sx sy dx dy : ℕ) where
-  choice-choosing : {x y z : ℕ} (k : Choice) → IsChoice w h C sx sy dx dy x y z k → Choosing w h C sx sy dx dy x y z
-  choice-choosing k c =
-      let m = chosen-candidate w h C sx sy dx dy c in
-      record { a = k .x; b = k .y; state = k .state; chosen = c; within = m .within; nearer = m .nearer }
-
-  pub chosen-some : ((a b : ℕ) → Dec (InRegion w h C sx sy dx dy a b)) → {x y : ℕ} (z : ℕ) → InRegion w h C sx sy dx dy x y → Apart x y dx dy
-      → Choosing w h C sx sy dx dy x y z
-  chosen-some d {x} {y} z r f =
-      let e = dec-test (d (hopTo x dx) y) in
-      let n = dec-test (d x (hopTo y dy)) in
-      choice-choosing _
-      (choice-right w h C sx sy dx dy z r f _ _ (row-test w h C sx sy dx dy x y (e .0) (e .1)) (column-test w h C sx sy dx dy x y (n .0) (n .1)))
 
 module _ (w h : ℕ) (C : ℕ → ℕ → Type 0) (sx sy dx dy : ℕ) (g : List ℕ) (G : RegionSheet w h C sx sy dx dy g) where
   -- A mark on the sheet tells the region.

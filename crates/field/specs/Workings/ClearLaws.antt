@@ -1,5 +1,6 @@
--- Clear distances: a crossing has one distance each way, and looking along its row or column on a sheet of the closed crossings finds it. The
--- ways differ only in where k hops lead, so the argument is made once, over any way.
+-- Clear distances: a crossing has one distance each way, and looking along its row or column on a
+-- sheet of the closed crossings finds it. The ways differ only in where k hops lead, so the
+-- argument is made once, over any way.
 use mathlib.Core.Path.{_≡_, refl, ap, _∙_}
 use mathlib.Core.Bool.{false}
 use mathlib.Core.List.{List}
@@ -42,7 +43,8 @@ along-start southward x y = omega arith
 along-start westward x y = omega arith
 along-start northward x y = omega arith
 
--- What looking at f for n hops, from the k-th on, finds: r is the first hop with a mark, or there is no mark.
+-- What looking at f for n hops, from the k-th on, finds: r is the first hop with a mark, or there
+-- is no mark.
 pub data Looked (f : ℕ → ℕ) (n k r : ℕ) : Type 0 where
   found : 0 < f r → ((i : ℕ) → k ≤ i → i < r → f i ≡ 0) → Looked f n k r
   lost : ((i : ℕ) → k ≤ i → i < k + n → f i ≡ 0) → r ≡ no-distance → Looked f n k r
@@ -83,7 +85,8 @@ module _ (s : List ℕ) (w h : ℕ) where
   lit-along northward k x y m = (x, y + k, (refl, refl))
 
 module _ (w h : ℕ) (C : ℕ → ℕ → Type 0) (s : List ℕ) (D : Draws w h C s) where
-  -- k hops that way from (x, y) there is a closed crossing where looking finds a mark, and none where it finds no mark.
+  -- k hops that way from (x, y) there is a closed crossing where looking finds a mark, and none
+  -- where it finds no mark.
   pub along-closed : (t : Way) (k x y : ℕ) → 0 < litAlong t s w h x y k → (a : ℕ) × (b : ℕ) × Along t k x y a b × C a b
   along-closed t k x y m =
       let l = lit-along s w h t k x y m in
@@ -92,7 +95,8 @@ module _ (w h : ℕ) (C : ℕ → ℕ → Type 0) (s : List ℕ) (D : Draws w h 
   pub along-free : (t : Way) (k x y a b : ℕ) → litAlong t s w h x y k ≡ 0 → Along t k x y a b → ¬ C a b
   along-free t k x y a b z l c = omega (arith, along-lit s w h t k x y a b l, drawn-lit w h C s D a b c)
 
-  -- From an open crossing the nearest closed one is the first hop with a mark; past the map there is none.
+  -- From an open crossing the nearest closed one is the first hop with a mark; past the map there
+  -- is none.
   looked-clear : (t : Way) (x y n : ℕ) → On w h x y → ¬ C x y → Looked (litAlong t s w h x y) (suc (w + h)) 0 n → Clear C t x y n
   looked-clear t x y n o f (found m g) =
       let r = along-closed t n x y m in nearest (r .0) (r .1) f (r .2) (r .3) (λ k a b p l. along-free t k x y a b (g k (omega arith) p) l)
@@ -118,9 +122,6 @@ module _ (w h : ℕ) (C : ℕ → ℕ → Type 0) (s : List ℕ) (D : Draws w h 
   -- The clear distance is what looking that way finds, and nothing else.
   pub clear-looks : (t : Way) (x y n : ℕ) → On w h x y → (Clear C t x y n ↔ n ≡ clearOf t s w h x y)
   clear-looks t x y n o = only (Clear C t x y) (clearOf t s w h x y) (clear-of t x y o) (λ n m. clear-one) n
-
-  pub clear-some : (t : Way) (x y : ℕ) → On w h x y → (n : ℕ) × Clear C t x y n
-  clear-some t x y o = (clearOf t s w h x y, clear-of t x y o)
 
   -- "the largest is 63": a clear distance is below the limit of the sides, or is the mark for none.
   pub clear-small : Sides w h → (t : Way) (x y n : ℕ) → On w h x y → Clear C t x y n → (n ≡ no-distance) ⊎ (n < side)

@@ -1,5 +1,6 @@
--- Working: the closed crossings, by sweeps over a sheet of the rocks until a sweep adds no mark; and that this draws the smallest set.
--- Each sweep marks only what is closed; a sheet to which a sweep adds nothing is stable, and so holds every closed crossing.
+-- Working: the closed crossings, by sweeps over a sheet of the rocks until a sweep adds no mark;
+-- and that this draws the smallest set. Each sweep marks only what is closed; a sheet to which a
+-- sweep adds nothing is stable, and so holds every closed crossing.
 use mathlib.Core.Path.{_≡_, sym, ap}
 use mathlib.Core.Bool.{false, cond, _||_}
 use mathlib.Core.List.{List}
@@ -17,7 +18,8 @@ use Rattle.field.specs.Workings.Marks.{lit-marked, marked-lit, Two, arou
 unfoldable pub use Rattle.field.specs.Workings.MarkCount.{marks}
 use Rattle.field.specs.Workings.MarkCount.{Among, marks-le-length, marks-mono, marks-same}
 
--- What one sweep makes of (x, y): all crossings are judged together on the state before it, and one with two or more marked neighbours is marked.
+-- What one sweep makes of (x, y): all crossings are judged together on the state before it, and one
+-- with two or more marked neighbours is marked.
 unfoldable pub next : List ℕ → ℕ → ℕ → ℕ → ℕ → ℕ
 next s w h x y = bit (ltb 0 (lit s w h x y) || leb 2 (around s w h x y))
 

@@ -1,4 +1,5 @@
--- Working: the corners of groups, read off a sheet of the closed crossings, and with them the number of groups and a group's rectangle.
+-- Working: the corners of groups, read off a sheet of the closed crossings, and with them the
+-- number of groups and a group's rectangle.
 use mathlib.Core.Path.{_≡_, subst}
 use mathlib.Core.Bool.{Bool, true, _&&_}
 use mathlib.Core.List.{List}
@@ -46,7 +47,8 @@ every-one (suc n) f e k l = let both = and-split _ _ e in go (decLt k n) (both .
 pub every-two : (n m : ℕ) (f : ℕ → ℕ → Bool) → every n (λ y. every m (f y)) ≡ true → (x y : ℕ) → x < m → y < n → f y x ≡ true
 every-two n m f e x y p q = every-one m (f y) (every-one n (λ y. every m (f y)) e y q) x p
 
--- Where f tells P and holds from low to high, and P ends there on both sides, low to high is the run of P about low.
+-- Where f tells P and holds from low to high, and P ends there on both sides, low to high is the
+-- run of P about low.
 every-run : (P : ℕ → Type 0) (f : ℕ → Bool) → ((u : ℕ) → f u ≡ true → P u) → (low high : ℕ) → low ≤ high
     → every (suc (high - low)) (λ k. f (low + k)) ≡ true → ((u : ℕ) → u + 1 ≡ low → ¬ P u) → ¬ P (high + 1) → Run P low
 every-run P f t low high l e below above =
@@ -57,7 +59,8 @@ every-run P f t low high l e below above =
         let i : low + (u - low) ≡ u = omega arith in
         subst P i (t (low + (u - low)) (every-one _ (λ k. f (low + k)) e (u - low) (omega arith)))
 
--- The group of (x₀, y₀) is x₀ to x₁ by y₀ to y₁: its first row and column are marked, and nothing beside their ends.
+-- The group of (x₀, y₀) is x₀ to x₁ by y₀ to y₁: its first row and column are marked, and nothing
+-- beside their ends.
 unfoldable pub rectangleOf : List ℕ → ℕ → ℕ → ℕ → ℕ → ℕ → ℕ → Bool
 rectangleOf s w h x₀ x₁ y₀ y₁ =
     (leb x₀ x₁ && leb y₀ y₁)
@@ -110,7 +113,8 @@ module _ (w h : ℕ) (C : ℕ → ℕ → Type 0) (s : List ℕ) (D : Draws w h 
         groups-corners w h C on st dec (tally w h (λ x y. bit (cornerOf s w h x y))) .1
         (count-tests w h (Corner C) (cornerOf s w h) (λ x y o. corner-looks x y) (corner-dec C dec))
 
-    -- A group whose first row and column are marked, and nothing beside their ends, is that rectangle: the product of two runs.
+    -- A group whose first row and column are marked, and nothing beside their ends, is that
+    -- rectangle: the product of two runs.
     pub rectangle-looks : (x₀ x₁ y₀ y₁ : ℕ) → rectangleOf s w h x₀ x₁ y₀ y₁ ≡ true → (a b : ℕ) → Linked C x₀ y₀ a b ↔ Within x₀ x₁ y₀ y₁ a b
     unfolding rectangleOf every-run
     rectangle-looks x₀ x₁ y₀ y₁ e =

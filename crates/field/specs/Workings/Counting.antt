@@ -1,4 +1,5 @@
--- Working: how many crossings a sheet marks; and that this is how many there are of what it draws, however that is decided.
+-- Working: how many crossings a sheet marks; and that this is how many there are of what it draws,
+-- however that is decided.
 use mathlib.Core.Path.{_≡_, refl, sym, _∙_}
 use mathlib.Core.Bool.{Bool, true, false, false≢true}
 use mathlib.Core.List.{List}

@@ -1,5 +1,5 @@
--- The four distances of a crossing and the distance sheets of the map: each has one value, and looking gives it. Both are made of single clear
--- distances, so both follow from the law of one.
+-- The four distances of a crossing and the distance sheets of the map: each has one value, and
+-- looking gives it. Both are made of single clear distances, so both follow from the law of one.
 use mathlib.Core.Path.{_≡_, refl}
 use mathlib.Core.List.{List}
 use mathlib.Core.Logic.{_↔_}

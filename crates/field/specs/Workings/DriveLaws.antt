@@ -1,15 +1,16 @@
--- Laws of drives. A hop brings a cart at most one nearer, so a drive has at least as many hops as the distance; drives join, turn round and
--- split; and a shortest drive joined, turned or split gives shortest drives.
-use mathlib.Core.Path.{_≡_, refl, sym, subst, subst₂, ap, _∙_}
+-- Laws of drives. A hop brings a cart at most one nearer, so a drive has at least as many hops as
+-- the distance; drives join, turn round and split; and a shortest drive joined, turned or split
+-- gives shortest drives.
+use mathlib.Core.Path.{_≡_, refl, sym, subst, subst₂, ap}
 use mathlib.Core.List.{List, [], _∷_, _++_, reverseAux, reverse}
 use mathlib.Core.Logic.{_↔_}
 use Prim.Native.Nat.{ℕ, zero, suc, _+_, _<_, _≤_}
 use native.Mathlib.Omega.{arith}
 use lib.ListN.{length, getD, take, drop, length-append, length-reverse}
-use Rattle.field.specs.Map.{On, number, Near, dist}
+use Rattle.field.specs.Map.{number, Near, dist}
 use Rattle.field.specs.Labels.{Open}
 use Rattle.field.specs.Drives.{Drive, last, next, HasDrive}
-use Rattle.field.specs.Workings.GridLaws.{dist-none, dist-turned, near-turned, hop-le, number-one}
+use Rattle.field.specs.Workings.GridLaws.{dist-none, dist-turned, near-turned, hop-le}
 
 module _ (w h : ℕ) (C : ℕ → ℕ → Type 0) where
   -- What is true of a crossing is true of it whatever its coordinates are called.
@@ -25,7 +26,8 @@ module _ (w h : ℕ) (C : ℕ → ℕ → Type 0) where
   drive-list : {dx dy x y : ℕ} {l m : List ℕ} → l ≡ m → Drive w h C dx dy x y l → Drive w h C dx dy x y m
   drive-list {dx} {dy} {x} {y} e v = subst (λ (k : List ℕ). Drive w h C dx dy x y k) e v
 
-  -- A drive's first crossing and its last are open, and its list begins with the one and ends with the other.
+  -- A drive's first crossing and its last are open, and its list begins with the one and ends with
+  -- the other.
   pub drive-open : {dx dy x y : ℕ} {l : List ℕ} → Drive w h C dx dy x y l → Open w h C x y
   drive-open (last p q o e) = o
   drive-open (next o n v e) = o
@@ -68,7 +70,8 @@ module _ (w h : ℕ) (C : ℕ → ℕ → Type 0) where
   pub drive-turned : {dx dy x y : ℕ} {l : List ℕ} → Drive w h C dx dy x y l → Drive w h C x y dx dy (reverse l)
   drive-turned v = turned-onto v [] (last refl refl (drive-open v) refl)
 
--- A drive split at its crossing i, which is (a, b): the crossing ends the first part and begins the second.
+-- A drive split at its crossing i, which is (a, b): the crossing ends the first part and begins the
+-- second.
 pub record Split (w h : ℕ) (C : ℕ → ℕ → Type 0) (dx dy x y : ℕ) (l : List ℕ) (i : ℕ) : Type 0 where
   pub a : ℕ
   pub b : ℕ
@@ -98,16 +101,8 @@ module _ (w h : ℕ) (C : ℕ → ℕ → Type 0) where
   drive-split (next o n v e) zero b = split-here e (next o n v e)
   drive-split (next o n v e) (suc i) b = split-later i o n e (drive-split v i (omega (arith, ap length e)))
 
-  -- Every crossing of a drive is open.
-  pub drive-opens : {dx dy sx sy : ℕ} {l : List ℕ} → Drive w h C dx dy sx sy l → (i x y : ℕ) → i < length l → On w h x y → getD l i 0 ≡ number w x y
-      → Open w h C x y
-  drive-opens v i x y b o e =
-      let k = drive-split v i b in
-      let p = drive-open w h C (k .after) in
-      let s = number-one o (p .on) (sym (k .is-there) ∙ e) in
-      open-at w h C (s .0) (s .1) p
-
--- How a shortest drive from (x, y) to (dx, dy) begins: it is there, or it hops to a neighbour one hop nearer, which has a shortest drive.
+-- How a shortest drive from (x, y) to (dx, dy) begins: it is there, or it hops to a neighbour one
+-- hop nearer, which has a shortest drive.
 pub data FirstHop (w h : ℕ) (C : ℕ → ℕ → Type 0) (x y dx dy : ℕ) : Type 0 where
   there : Open w h C x y → x ≡ dx → y ≡ dy → FirstHop w h C x y dx dy
   hop : (a b : ℕ) → Open w h C x y → Near x y a b → dist a b dx dy + 1 ≡ dist x y dx dy → HasDrive w h C a b dx dy → FirstHop w h C x y dx dy

@@ -1,5 +1,5 @@
--- Small laws of distances, neighbours, crossing numbers and hops, with those of one axis passed on. A hop changes one offset by one, so it changes
--- a distance by one.
+-- Small laws of distances, neighbours, crossing numbers and hops, with those of one axis passed on.
+-- A hop changes one offset by one, so it changes a distance by one.
 use mathlib.Core.Path.{_≡_, refl, sym, ap}
 use mathlib.Core.Logic.{_⊎_, inl, inr}
 use Prim.Native.Nat.{ℕ, suc, _+_, _*_, _<_, _≤_}

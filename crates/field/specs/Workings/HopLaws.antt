@@ -1,5 +1,6 @@
--- Single hops homeward: a permitted hop keeps the row or the column, and of the two places next to one on the other axis only one is nearer home.
--- So from a place there are at most two, and what a hop call may answer is one.
+-- Single hops homeward: a permitted hop keeps the row or the column, and of the two places next to
+-- one on the other axis only one is nearer home. So from a place there are at most two, and what a
+-- hop call may answer is one.
 use mathlib.Core.Path.{_≡_, refl}
 use mathlib.Core.Logic.{_⊎_, inl, inr, _↔_, _≢_}
 use Prim.Native.Nat.{ℕ}
@@ -19,7 +20,8 @@ abbrev pub ByColumn : ℕ → ℕ → ℕ → ℕ → ℕ → Type 0
 ByColumn hy x y a b = (a ≡ x) × (b ≡ hopTo y hy)
 
 module _ {w h : ℕ} {C : ℕ → ℕ → Type 0} {hx hy x y : ℕ} where
-  -- A permitted hop is one of the two hops towards home, and a hop towards home that leads to an open crossing is permitted.
+  -- A permitted hop is one of the two hops towards home, and a hop towards home that leads to an
+  -- open crossing is permitted.
   pub permitted-toward : {a b : ℕ} → Permitted w h C hx hy x y a b → Toward hx hy x y a b
   permitted-toward p = nearer-toward hx hy (p .near) (p .homeward)
 
@@ -64,7 +66,8 @@ module _ {w h : ℕ} {C : ℕ → ℕ → Type 0} {hx hy x y : ℕ} where
   answers-one (both a b c d p k q l e) (both a′ b′ c′ d′ p′ k′ q′ l′ e′) =
       cc (permitted-row p k, permitted-row p′ k′, permitted-column q l, permitted-column q′ l′)
 
-  -- Off home's column the hop along the row is permitted where it leads to an open crossing, and off home's row the one along the column.
+  -- Off home's column the hop along the row is permitted where it leads to an open crossing, and
+  -- off home's row the one along the column.
   pub row-permitted : ((x ≢ hx) × Open w h C (hopTo x hx) y) ↔ Permitted w h C hx hy x y (hopTo x hx) y
   row-permitted = (λ o. toward-permitted (along-row (o .0) refl refl) (o .1), λ p. (toward-row (permitted-toward p) refl .0, p .to))
 

@@ -1,16 +1,18 @@
--- Working: the label sheet, from a sheet of the rocks; and that it is the label sheet, the only one there is.
+-- Working: the label sheet, from a sheet of the rocks; and that it is the label sheet, the only one
+-- there is.
 use mathlib.Core.Path.{_≡_, sym, _∙_}
-use mathlib.Core.Bool.{cond}
+use mathlib.Core.Bool.{Bool, true, cond}
 use mathlib.Core.List.{List}
 use mathlib.Core.Logic.{_↔_}
-use Prim.Native.Nat.{ℕ}
+use Prim.Native.Nat.{ℕ, _<_}
 use native.Mathlib.Omega.{arith}
 use lib.Dec.{ltb}
+use borrow.Author.Tests.{ltb-true, lt-ltb}
 use Rattle.field.specs.Map.{On, at}
-use Rattle.field.specs.Labels.{Closed, rock, closed-on-map, RockOn, Label, is-open, is-rock, is-shut, LabelSheet}
+use Rattle.field.specs.Labels.{Closed, rock, closed-on-map, Shut, RockOn, Label, is-open, is-rock, is-shut, LabelSheet}
 use Rattle.field.specs.Workings.Tests.{only}
 use Rattle.field.specs.Workings.Sheet.{Marked, Draws, lit, sheet, sheet-length, sheet-at, sheet-same}
-use Rattle.field.specs.Workings.Marks.{drawn-dec, drawn-lit, undrawn-lit}
+use Rattle.field.specs.Workings.Marks.{drawn-dec, lit-le, drawn-lit, lit-drawn, undrawn-lit}
 use Rattle.field.specs.Workings.Closing.{closing, closing-draws}
 
 -- The label from the two marks, rock and closed.
@@ -82,3 +84,30 @@ module _ (R : ℕ → ℕ → Type 0) (w h : ℕ) (rocks : List ℕ) (D : Draws 
 
   pub labels-labelling : (s : List ℕ) → LabelSheet R w h s ↔ (s ≡ labelling w h rocks)
   labels-labelling = only (LabelSheet R w h) (labelling w h rocks) labelling-labels (label-sheet-one R w h)
+
+-- Marked on the second sheet alone: in Q and not in P.
+unfoldable pub alone : ℕ → ℕ → List ℕ → List ℕ → ℕ → ℕ → Bool
+alone w h s t x y = ltb (lit s w h x y) (lit t w h x y)
+
+alone-looks : {w h : ℕ} {P Q : ℕ → ℕ → Type 0} {s t : List ℕ} → Draws w h P s → Draws w h Q t → (x y : ℕ) → ((Q x y × ¬ P x y) ↔ alone w h s t x y ≡ true)
+unfolding alone
+alone-looks {w} {h} {P} {Q} {s} {t} D E x y = (sound, complete)
+  where
+    sound : Q x y × ¬ P x y → ltb (lit s w h x y) (lit t w h x y) ≡ true
+    sound k =
+        lt-ltb (lit s w h x y) (lit t w h x y) (omega (arith, undrawn-lit w h P s D x y (k .1), drawn-lit w h Q t E x y (k .0)))
+
+    complete : ltb (lit s w h x y) (lit t w h x y) ≡ true → Q x y × ¬ P x y
+    complete e =
+        let l : lit s w h x y < lit t w h x y = ltb-true _ _ e in
+        (lit-drawn w h Q t E x y (omega arith), λ p. omega (arith, drawn-lit w h P s D x y p, lit-le t w h x y))
+
+-- Shut is closed and no rock.
+pub shut-looks : (R : ℕ → ℕ → Type 0) (w h : ℕ) (rocks closed : List ℕ) → Draws w h (RockOn R w h) rocks → Draws w h (Closed R w h) closed
+    → (x y : ℕ) → (Shut R w h x y ↔ alone w h rocks closed x y ≡ true)
+shut-looks R w h rocks closed D E x y = (
+  λ t. alone-looks D E x y .0 (t .closed, λ k. t .bare (k .stone)),
+  λ e.
+      let k = alone-looks D E x y .1 e in
+      record { closed = k .0; bare = λ m. k .1 (record { on = closed-on-map R w h x y (k .0); stone = m }) },
+)

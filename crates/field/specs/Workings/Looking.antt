@@ -61,7 +61,8 @@ eastWestOf s w h hx x y = cond (eqb x hx) false (openOf s w h (hopTo x hx) y)
 unfoldable pub northSouthOf : List ℕ → ℕ → ℕ → ℕ → ℕ → ℕ → Bool
 northSouthOf s w h hy x y = cond (eqb y hy) false (openOf s w h x (hopTo y hy))
 
--- The answer from what is permitted; with no hop permitted it is "there", which at an assured place is so at home alone.
+-- The answer from what is permitted; with no hop permitted it is "there", which at an assured place
+-- is so at home alone.
 abbrev pub answerOf : Bool → Bool → ℕ → ℕ → ℕ → ℕ → HopAnswer
 answerOf true true x y a b = two a y x b
 answerOf true false x y a b = one a y

@@ -1,5 +1,6 @@
--- Working: how many marks a sheet has. A mark more is one more: so where no mark of s goes missing in t, t has as many marks only if it has the
--- same ones. By this it is told whether a sweep has added anything.
+-- Working: how many marks a sheet has. A mark more is one more: so where no mark of s goes missing
+-- in t, t has as many marks only if it has the same ones. By this it is told whether a sweep has
+-- added anything.
 use mathlib.Core.Path.{_≡_}
 use mathlib.Core.List.{List, [], _∷_}
 use Prim.Native.Nat.{ℕ, zero, suc, _+_, _<_, _≤_}

@@ -1,4 +1,5 @@
--- Laws of a sheet's marks: a mark as a number against the mark itself, and a crossing's marked neighbours against their number.
+-- Laws of a sheet's marks: a mark as a number against the mark itself, and a crossing's marked
+-- neighbours against their number.
 use mathlib.Core.Path.{_≡_, refl, ap}
 use mathlib.Core.Bool.{true, _&&_}
 use mathlib.Core.List.{List}

@@ -1,5 +1,6 @@
--- The region's workings agree with its meaning. Each round of reaching adds the crossings whose shortest drive has one hop more, by the first
--- hop of a drive; a crossing reached from both ends without a detour is in the region.
+-- The region's workings agree with its meaning. Each round of reaching adds the crossings whose
+-- shortest drive has one hop more, by the first hop of a drive; a crossing reached from both ends
+-- without a detour is in the region.
 use mathlib.Core.Path.{_≡_, sym, subst, ap, _∙_}
 use mathlib.Core.Bool.{Bool, true, _&&_, _||_, true≢false}
 use mathlib.Core.List.{List}

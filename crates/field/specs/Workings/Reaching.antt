@@ -1,4 +1,5 @@
--- Workings: the region and the chooser's drive. c is a sheet of the closed crossings, g one of the region.
+-- Workings: the region and the chooser's drive. c is a sheet of the closed crossings, g one of the
+-- region.
 use mathlib.Core.Bool.{Bool, true, false, cond, _&&_, _||_}
 use mathlib.Core.List.{List, [], _∷_}
 use Prim.Native.Nat.{ℕ, zero, suc, _+_}
@@ -9,7 +10,8 @@ use Rattle.field.specs.Workings.Tests.{bit}
 use Rattle.field.specs.Workings.Sheet.{lit, around, sheet}
 use Rattle.field.specs.Workings.Looking.{hopTo, openOf}
 
--- What one more hop makes of (x, y): t marks the crossings with a shortest drive to (dx, dy) of fewer than n hops.
+-- What one more hop makes of (x, y): t marks the crossings with a shortest drive to (dx, dy) of
+-- fewer than n hops.
 unfoldable pub reachNext : List ℕ → ℕ → ℕ → ℕ → ℕ → List ℕ → ℕ → ℕ → ℕ → ℕ
 reachNext c w h dx dy t n x y =
     bit (ltb 0 (lit t w h x y) || (openOf c w h x y && (eqb (dist x y dx dy) n && ltb 0 (around t w h x y))))
@@ -19,7 +21,8 @@ unfoldable pub reach : List ℕ → ℕ → ℕ → ℕ → ℕ → ℕ → List
 reach c w h dx dy zero = sheet w h (λ x y. bit (openOf c w h x y && eqb (dist x y dx dy) 0))
 reach c w h dx dy (suc n) = let t = reach c w h dx dy n in sheet w h (reachNext c w h dx dy t (suc n))
 
--- (x, y) lies on the way: it has a shortest drive to s (f marks those) and one to d (b marks those), and the two together are no detour.
+-- (x, y) lies on the way: it has a shortest drive to s (f marks those) and one to d (b marks
+-- those), and the two together are no detour.
 unfoldable pub onWay : ℕ → ℕ → ℕ → ℕ → ℕ → ℕ → List ℕ → List ℕ → ℕ → ℕ → ℕ
 onWay w h sx sy dx dy f b x y =
     bit (eqb (dist sx sy x y + dist x y dx dy) (dist sx sy dx dy) && (ltb 0 (lit f w h x y) && ltb 0 (lit b w h x y)))

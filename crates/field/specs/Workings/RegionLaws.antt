@@ -1,5 +1,6 @@
--- The region: a crossing is on a shortest drive exactly if it has a shortest drive from s and one to d, and the two together are no detour. A
--- shortest drive splits at the crossing into two shortest ones, and two such join.
+-- The region: a crossing is on a shortest drive exactly if it has a shortest drive from s and one
+-- to d, and the two together are no detour. A shortest drive splits at the crossing into two
+-- shortest ones, and two such join.
 use mathlib.Core.Path.{_≡_, refl, sym, _∙_}
 use mathlib.Core.List.{List, _++_}
 use mathlib.Core.Logic.{_↔_}
@@ -21,7 +22,8 @@ pub record Between (w h : ℕ) (C : ℕ → ℕ → Type 0) (sx sy dx dy x y : �
   pub after : HasDrive w h C x y dx dy
 
 module _ (w h : ℕ) (C : ℕ → ℕ → Type 0) (sx sy dx dy : ℕ) where
-  -- The two parts of a shortest drive are as short as can be: together they have no more hops than the distance.
+  -- The two parts of a shortest drive are as short as can be: together they have no more hops than
+  -- the distance.
   split-between : {x y : ℕ} (l : List ℕ) (i : ℕ) → i < length l → length l ≡ dist sx sy dx dy + 1 → On w h x y
       → Drive w h C x y sx sy (take (suc i) l) → Drive w h C dx dy x y (drop i l) → Between w h C sx sy dx dy x y
   split-between {x} {y} l i b e o v u =
@@ -81,7 +83,8 @@ module _ (w h : ℕ) (C : ℕ → ℕ → Type 0) (sx sy dx dy : ℕ) where
             after = r;
           })
 
-  -- From a crossing of the region, a hop nearer d to a crossing that has a shortest drive to d stays in the region.
+  -- From a crossing of the region, a hop nearer d to a crossing that has a shortest drive to d
+  -- stays in the region.
   pub region-hop : {x y a b : ℕ} → InRegion w h C sx sy dx dy x y → Near x y a b → dist a b dx dy + 1 ≡ dist x y dx dy → HasDrive w h C a b dx dy
       → InRegion w h C sx sy dx dy a b
   region-hop {x} {y} {a} {b} r n e v =

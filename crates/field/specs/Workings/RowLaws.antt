@@ -1,4 +1,5 @@
--- A row of the table of settled examples that passes its test holds: each test is made of workings, and each working agrees with its meaning.
+-- A row of a table that passes its test holds: each test is made of workings, and each working
+-- agrees with its meaning.
 use mathlib.Core.Path.{_≡_, sym, subst, _∙_}
 use mathlib.Core.Bool.{Bool, true, _||_, false≢true}
 use mathlib.Core.List.{List, [], _∷_}
@@ -8,27 +9,35 @@ use native.Mathlib.Omega.{arith}
 use lib.Dec.{ltb, eqb}
 use lib.ListN.{length}
 use borrow.Author.Tests.{ltb-true, eqb-true, le-ltb, not-true}
-use Rattle.field.specs.Map.{dist}
+use Rattle.field.specs.Map.{dist, side, Sides}
 use Rattle.field.specs.Labels.{RockOn, closed-on-map, closed-stable, Open, Shut, Count}
 use Rattle.field.specs.Groups.{Groups}
+use Rattle.field.specs.Hops.{HopAnswer}
 use Rattle.field.specs.Drives.{HasDrive, InRegion, RegionSheet}
-use Rattle.field.specs.Table.{Row, labels, group, each-distance, distances, assured, not-assured, refused-9, drive, region, outside, driven, Holds, Place, wide, high, markersOn, RocksOn, ClosedBy, picture, EachShut}
+use Rattle.field.specs.Table.{Row, labels, group, each-distance, distances, assured, not-assured, hop, refused-9, drive, region, outside, driven, Holds, Place, wide, high, markersOn, RocksOn, ClosedBy, picture, EachShut}
 use Rattle.field.specs.Workings.Tests.{and-split, test-dec}
 use Rattle.field.specs.Workings.Sheet.{Draws, lit}
-use Rattle.field.specs.Workings.Marks.{drawn-lit, drawn-looks}
+use Rattle.field.specs.Workings.Marks.{drawn-lit, drawn-looks, drawn-dec}
 use Rattle.field.specs.Workings.Closing.{closing-draws}
 use Rattle.field.specs.Workings.Stamping.{stamp-draws}
-use Rattle.field.specs.Workings.Labelling.{labels-labelling}
+use Rattle.field.specs.Workings.Labelling.{labels-labelling, alone, shut-looks}
 use Rattle.field.specs.Workings.Counting.{count-marks, count-tests}
 use Rattle.field.specs.Workings.Corners.{every-two, groups-look, rectangle-looks}
 use Rattle.field.specs.Workings.Looking.{openOf}
 use Rattle.field.specs.Workings.ClearLaws.{clear-looks}
 use Rattle.field.specs.Workings.DistanceLaws.{distances-look}
 use Rattle.field.specs.Workings.AssuredLaws.{open-looks, open-dec, assured-looks}
+use Rattle.field.specs.Workings.AnswerLaws.{hop-looks}
 use Rattle.field.specs.Workings.RegionLaws.{has-drive-in, region-sheet-draws}
 use Rattle.field.specs.Workings.ReachLaws.{region-made}
 use Rattle.field.specs.Workings.ChoosingLaws.{driven-looks}
-use Rattle.field.specs.Workings.RowTests.{same-is, rockSheet, closedSheet, regionSheet, alone, alone-looks, eachAlone, distance-at, each-way, passes}
+use Rattle.field.specs.Workings.RowTests.{same-is, rockSheet, closedSheet, regionSheet, eachAlone, distance-at, each-way, same-answer-is, passes}
+use Rattle.field.specs.Geometry.Theorems.{home-hop}
+
+-- The examples' map is one of document 01's.
+table-sides : Sides wide high
+unfolding side
+table-sides = record { some-w = omega arith; some-h = omega arith; most-w = omega arith; most-h = omega arith }
 
 module _ (rocks : List Place) where
   -- R tells the row's rocks and C its closed crossings; r and c are their sheets.
@@ -52,19 +61,13 @@ module _ (rocks : List Place) where
   unfolding closedSheet
   closed-draw = closing-draws wide high R r rocks-draw
 
-  -- Shut is closed and no rock.
-  shut-looks : (x y : ℕ) → (Shut R wide high x y ↔ alone r c x y ≡ true)
-  shut-looks x y = (
-    λ t. alone-looks rocks-draw closed-draw x y .0 (t .closed, λ k. t .bare (k .stone)),
-    λ e.
-        let k = alone-looks rocks-draw closed-draw x y .1 e in
-        record { closed = k .0; bare = λ m. k .1 (record { on = closed-on-map R wide high x y (k .0); stone = m }) },
-  )
+  shut-tells : (x y : ℕ) → (Shut R wide high x y ↔ alone wide high r c x y ≡ true)
+  shut-tells = shut-looks R wide high r c rocks-draw closed-draw
 
   each-shut : (shut : List Place) → eachAlone r c shut ≡ true → EachShut rocks shut
   unfolding eachAlone
   each-shut [] e = tt
-  each-shut (p ∷ ps) e = let f = and-split _ _ e in (shut-looks (p .x) (p .y) .1 (f .0), each-shut ps (f .1))
+  each-shut (p ∷ ps) e = let f = and-split _ _ e in (shut-tells (p .x) (p .y) .1 (f .0), each-shut ps (f .1))
 
   labels-hold : (shut : List Place) (groups opens : ℕ) → passes (labels rocks shut groups opens) ≡ true → Holds (labels rocks shut groups opens)
   unfolding passes
@@ -78,7 +81,7 @@ module _ (rocks : List Place) where
         each-shut shut (d .1),
         count-marks wide high (RockOn R wide high) r rocks-draw (length rocks) .1 (eqb-true _ _ (g .1)),
         subst (Count wide high (Shut R wide high)) (sym (eqb-true _ _ (m .0)))
-            (count-tests wide high (Shut R wide high) (alone r c) (λ x y o. shut-looks x y) (λ x y. test-dec (alone r c x y) (shut-looks x y))),
+            (count-tests wide high (Shut R wide high) (alone wide high r c) (λ x y o. shut-tells x y) (λ x y. test-dec (alone wide high r c x y) (shut-tells x y))),
         subst (Groups wide high C) (sym (eqb-true _ _ (m .1)))
             (groups-look wide high C c closed-draw (closed-on-map R wide high) (closed-stable R wide high)),
         subst (Count wide high (Open wide high C)) (sym (eqb-true _ _ (k .1)))
@@ -111,6 +114,17 @@ module _ (rocks : List Place) where
   not-assured-holds : (hx hy x y : ℕ) → passes (not-assured rocks hx hy x y) ≡ true → Holds (not-assured rocks hx hy x y)
   unfolding passes
   not-assured-holds hx hy x y e a = false≢true (sym (not-true _ e) ∙ assured-looks wide high C c closed-draw hx hy x y .0 a)
+
+  -- A place that is assured has a permitted hop unless it is home, and so the tests tell the
+  -- answer.
+  hop-holds : (hx hy x y : ℕ) (answer : HopAnswer) → passes (hop rocks hx hy x y answer) ≡ true → Holds (hop rocks hx hy x y answer)
+  unfolding passes
+  hop-holds hx hy x y answer e =
+      let f = and-split _ _ e in
+      let a = assured-looks wide high C c closed-draw hx hy x y .1 (f .0) in (
+        a,
+        hop-looks wide high C c closed-draw hx hy x y (home-hop R wide high (drawn-dec wide high C c closed-draw) table-sides hx hy a) answer .1 (same-answer-is _ _ (f .1)),
+      )
 
   -- The rows on drives. In tells the region, and g is its sheet.
   module _ (sx sy dx dy : ℕ) where
@@ -179,6 +193,7 @@ passes-holds (each-distance rocks n) = each-distance-holds rocks n
 passes-holds (distances rocks x y four) = distances-hold rocks x y four
 passes-holds (assured rocks hx hy x y) = assured-holds rocks hx hy x y
 passes-holds (not-assured rocks hx hy x y) = not-assured-holds rocks hx hy x y
+passes-holds (hop rocks hx hy x y answer) = hop-holds rocks hx hy x y answer
 passes-holds (refused-9 rocks sx sy dx dy) = refused-9-holds rocks sx sy dx dy
 passes-holds (drive rocks sx sy dx dy n) = drive-holds rocks sx sy dx dy n
 passes-holds (region rocks sx sy dx dy n) = region-holds rocks sx sy dx dy n

@@ -1,26 +1,25 @@
--- A test for each row of the table of settled examples, which the checker computes; beside the small tests of which they are made stands what
--- those tell. That a row which passes its test holds is proved in RowLaws.
+-- A test for each kind of row of a table, which the checker computes; beside the small tests of
+-- which they are made stands what those tell. That a row which passes its test holds is proved in
+-- RowLaws.
 use mathlib.Core.Path.{_≡_, refl}
 use mathlib.Core.Bool.{Bool, true, false, not, _&&_, _||_, false≢true}
 use mathlib.Core.List.{List, [], _∷_}
-use mathlib.Core.Logic.{_↔_}
-use Prim.Native.Nat.{ℕ, suc, _<_}
-use native.Mathlib.Omega.{arith}
+use Prim.Native.Nat.{ℕ, suc}
 use lib.Dec.{ltb, eqb}
 use lib.ListN.{length}
-use borrow.Author.Tests.{ltb-true, lt-ltb, eqb-true}
+use borrow.Author.Tests.{eqb-true}
 use Rattle.field.specs.Map.{dist}
 use Rattle.field.specs.Distances.{Way, eastward, southward, westward, northward}
-use Rattle.field.specs.Table.{Row, labels, group, each-distance, distances, assured, not-assured, refused-9, drive, region, outside, driven, Place, wide, high, markersOn, picture}
+use Rattle.field.specs.Hops.{HopAnswer, there, one, two}
+use Rattle.field.specs.Table.{Row, labels, group, each-distance, distances, assured, not-assured, hop, refused-9, drive, region, outside, driven, Place, wide, high, markersOn, picture}
 use Rattle.field.specs.Workings.Tests.{bit, and-split}
-use Rattle.field.specs.Workings.Sheet.{Draws, lit}
-use Rattle.field.specs.Workings.Marks.{lit-le, drawn-lit, lit-drawn, undrawn-lit}
+use Rattle.field.specs.Workings.Sheet.{lit}
 use Rattle.field.specs.Workings.Closing.{closing}
 use Rattle.field.specs.Workings.Stamping.{stamp}
-use Rattle.field.specs.Workings.Labelling.{labelling}
+use Rattle.field.specs.Workings.Labelling.{labelling, alone}
 use Rattle.field.specs.Workings.Counting.{tally}
 use Rattle.field.specs.Workings.Corners.{groupsOf, every, rectangleOf}
-use Rattle.field.specs.Workings.Looking.{clearOf, distancesOf, openOf, assuredOf}
+use Rattle.field.specs.Workings.Looking.{clearOf, distancesOf, openOf, assuredOf, hopOf}
 use Rattle.field.specs.Workings.Reaching.{regionOf, driveOf}
 
 -- Two lists of numbers are the same.
@@ -51,26 +50,6 @@ closedSheet ps = closing wide high (rockSheet ps)
 unfoldable pub regionSheet : List Place → ℕ → ℕ → ℕ → ℕ → List ℕ
 regionSheet ps sx sy dx dy = regionOf (closedSheet ps) wide high sx sy dx dy
 
--- Marked on the second sheet alone.
-unfoldable pub alone : List ℕ → List ℕ → ℕ → ℕ → Bool
-alone s t x y = ltb (lit s wide high x y) (lit t wide high x y)
-
--- What is marked on the second sheet alone is in Q and not in P.
-pub alone-looks : {P Q : ℕ → ℕ → Type 0} {s t : List ℕ} → Draws wide high P s → Draws wide high Q t → (x y : ℕ)
-    → ((Q x y × ¬ P x y) ↔ alone s t x y ≡ true)
-unfolding alone
-alone-looks {P} {Q} {s} {t} D E x y = (sound, complete)
-  where
-    sound : Q x y × ¬ P x y → ltb (lit s wide high x y) (lit t wide high x y) ≡ true
-    sound k =
-        lt-ltb (lit s wide high x y) (lit t wide high x y)
-        (omega (arith, undrawn-lit wide high P s D x y (k .1), drawn-lit wide high Q t E x y (k .0)))
-
-    complete : ltb (lit s wide high x y) (lit t wide high x y) ≡ true → Q x y × ¬ P x y
-    complete e =
-        let l : lit s wide high x y < lit t wide high x y = ltb-true _ _ e in
-        (lit-drawn wide high Q t E x y (omega arith), λ p. omega (arith, drawn-lit wide high P s D x y p, lit-le t wide high x y))
-
 -- Each distance of (x, y) is n.
 unfoldable pub distance-at : ℕ → List ℕ → ℕ → ℕ → Bool
 distance-at n s y x =
@@ -94,16 +73,46 @@ each-way n s x y e t =
     by-way westward e d f u = f
     by-way northward e d f u = u
 
+-- Two answers of a hop call are the same.
+unfoldable pub same-answer : HopAnswer → HopAnswer → Bool
+same-answer there there = true
+same-answer there (one a b) = false
+same-answer there (two a b c d) = false
+same-answer (one a b) there = false
+same-answer (one a b) (one p q) = eqb a p && eqb b q
+same-answer (one a b) (two p q r s) = false
+same-answer (two a b c d) there = false
+same-answer (two a b c d) (one p q) = false
+same-answer (two a b c d) (two p q r s) = (eqb a p && eqb b q) && (eqb c r && eqb d s)
+
+pub same-answer-is : (r t : HopAnswer) → same-answer r t ≡ true → r ≡ t
+unfolding same-answer
+same-answer-is there there e = refl
+same-answer-is there (one a b) e = absurd (false≢true e)
+same-answer-is there (two a b c d) e = absurd (false≢true e)
+same-answer-is (one a b) there e = absurd (false≢true e)
+same-answer-is (one a b) (one p q) e =
+    let f = and-split _ _ e in
+    cc (eqb-true a p (f .0), eqb-true b q (f .1))
+same-answer-is (one a b) (two p q r s) e = absurd (false≢true e)
+same-answer-is (two a b c d) there e = absurd (false≢true e)
+same-answer-is (two a b c d) (one p q) e = absurd (false≢true e)
+same-answer-is (two a b c d) (two p q r s) e =
+    let f = and-split _ _ e in
+    let g = and-split _ _ (f .0) in
+    let k = and-split _ _ (f .1) in
+    cc (eqb-true a p (g .0), eqb-true b q (g .1), eqb-true c r (k .0), eqb-true d s (k .1))
+
 -- Each of the places is marked on the second sheet alone.
 unfoldable pub eachAlone : List ℕ → List ℕ → List Place → Bool
 eachAlone s t [] = true
-eachAlone s t (p ∷ ps) = alone s t (p .x) (p .y) && eachAlone s t ps
+eachAlone s t (p ∷ ps) = alone wide high s t (p .x) (p .y) && eachAlone s t ps
 
 -- The tests.
 unfoldable pub passes : Row → Bool
 passes (labels rocks shut groups opens) =
     ((same (picture rocks shut) (labelling wide high (rockSheet rocks)) && eachAlone (rockSheet rocks) (closedSheet rocks) shut) && eqb (length rocks) (tally wide high (lit (rockSheet rocks) wide high)))
-    && ((eqb (length shut) (tally wide high (λ x y. bit (alone (rockSheet rocks) (closedSheet rocks) x y)))
+    && ((eqb (length shut) (tally wide high (λ x y. bit (alone wide high (rockSheet rocks) (closedSheet rocks) x y)))
     && eqb groups (groupsOf (closedSheet rocks) wide high))
     && eqb opens (tally wide high (λ x y. bit (openOf (closedSheet rocks) wide high x y))))
 passes (group rocks x₀ x₁ y₀ y₁) = rectangleOf (closedSheet rocks) wide high x₀ x₁ y₀ y₁
@@ -111,6 +120,8 @@ passes (each-distance rocks n) = every high (λ y. every wide (distance-at n (cl
 passes (distances rocks x y four) = (ltb x wide && ltb y high) && same four (distancesOf (closedSheet rocks) wide high x y)
 passes (assured rocks hx hy x y) = assuredOf (closedSheet rocks) wide high hx hy x y
 passes (not-assured rocks hx hy x y) = not (assuredOf (closedSheet rocks) wide high hx hy x y)
+passes (hop rocks hx hy x y answer) =
+    assuredOf (closedSheet rocks) wide high hx hy x y && same-answer answer (hopOf (closedSheet rocks) wide high hx hy x y)
 passes (refused-9 rocks sx sy dx dy) =
     (openOf (closedSheet rocks) wide high sx sy && openOf (closedSheet rocks) wide high dx dy)
     && eqb (lit (regionSheet rocks sx sy dx dy) wide high sx sy) 0

@@ -1,6 +1,6 @@
--- Meanings depend on which crossings are closed, and not on how that is said: where C and D hold each other, whatever is told of the one is told of
--- the other. The same of rocks: two rock predicates that agree on the map close the same crossings.
-use mathlib.Core.Path.{_≡_}
+-- Meanings depend on which crossings are closed, and not on how that is said: where C and D hold
+-- each other, whatever is told of the one is told of the other. The same of rocks: two rock
+-- predicates that agree on the map close the same crossings.
 use mathlib.Core.List.{List}
 use mathlib.Core.Logic.{_↔_}
 use Prim.Native.Nat.{ℕ}

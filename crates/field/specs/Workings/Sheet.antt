@@ -1,4 +1,5 @@
--- Sheets as lists: what a sheet marks, and the workings' tools: rows made from a function, a mark as 0 or 1, a crossing's marked neighbours.
+-- Sheets as lists: what a sheet marks, and the workings' tools: rows made from a function, a mark
+-- as 0 or 1, a crossing's marked neighbours.
 use mathlib.Core.Path.{_≡_, refl, ap, _∙_}
 use mathlib.Core.Bool.{_&&_}
 use mathlib.Core.List.{List, [], _∷_, _++_}

@@ -1,4 +1,5 @@
--- Working: the sheet of the rocks, from the list of the markers in use; and that it draws the crossings on which a marker stands.
+-- Working: the sheet of the rocks, from the list of the markers in use; and that it draws the
+-- crossings on which a marker stands.
 use mathlib.Core.Path.{_≡_}
 use mathlib.Core.Bool.{Bool, true, false, _&&_, _||_, false≢true}
 use mathlib.Core.List.{List, [], _∷_}

@@ -1,5 +1,6 @@
--- Laws of tests and of what they tell, which say nothing of maps: a test's answer as a number, tests joined by "and" and "or", a choice that a
--- test makes, a test that decides, a thing of which there is one.
+-- Laws of tests and of what they tell, which say nothing of maps: a test's answer as a number,
+-- tests joined by "and" and "or", a choice that a test makes, a test that decides, a thing of which
+-- there is one.
 use mathlib.Core.Path.{_≡_, refl, sym, subst, ap}
 use mathlib.Core.Bool.{Bool, true, false, cond, _&&_, _||_, false≢true}
 use mathlib.Core.Logic.{_⊎_, inl, inr, _↔_, _≢_}
@@ -67,19 +68,10 @@ off-looks {P} b f p d = (
   cond-cases (λ t. t ≡ true → (p ≢ d) × P) (eqb p d) (λ e q. absurd (false≢true q)) (λ e q. (eqb-false p d e, f .1 q)),
 )
 
--- What a test tells can be decided, and what can be decided is told by a test.
+-- What a test tells can be decided.
 pub test-dec : {P : Type 0} (b : Bool) → (P ↔ b ≡ true) → Dec P
 test-dec true f = yes (f .1 refl)
 test-dec false f = no (λ p. false≢true (f .0 p))
-
-pub dec-test : {P : Type 0} → Dec P → (b : Bool) × (P ↔ b ≡ true)
-dec-test (yes p) = (true, ((λ q. refl), λ e. p))
-dec-test (no n) = (false, ((λ q. absurd (n q)), λ e. absurd (false≢true e)))
-
-pub sum-dec : {P Q : Type 0} → Dec P → Dec Q → Dec (P ⊎ Q)
-sum-dec (yes p) e = yes (inl p)
-sum-dec (no f) (yes q) = yes (inr q)
-sum-dec (no f) (no g) = no (elim [ inl p ↦ f p | inr q ↦ g q ])
 
 -- Where P holds of v and of one thing alone, it says of n that n is v.
 pub only : {A : Type 0} (P : A → Type 0) (v : A) → P v → ((n m : A) → P n → P m → n ≡ m) → (n : A) → (P n ↔ n ≡ v)

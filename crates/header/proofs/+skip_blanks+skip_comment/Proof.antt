@@ -1,5 +1,6 @@
--- `skip_blanks` and `skip_comment` meet their contracts together. Each loop keeps what is left leading to the same end; each call is made further on
--- than the bytes that the caller began with, so the bytes left fall.
+-- `skip_blanks` and `skip_comment` meet their contracts together. Each loop keeps what is left
+-- leading to the same end; each call is made further on than the bytes that the caller began with,
+-- so the bytes left fall.
 use Prim.Native.Nat.{ℕ, _-_, _<_}
 use native.Mathlib.Omega.{arith}
 use borrow.Author.Tests.{not-true, not-false}

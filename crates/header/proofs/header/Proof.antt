@@ -1,10 +1,13 @@
--- `header` meets its contract: the three parts that it reads make a header, and where one of them is missing there is none.
+-- `header` meets its contract: the three parts that it reads make a header, and where one of them
+-- is missing there is none.
 use Rattle.header.proofs.Heading.{
   gap-ends,
   gap-missing,
   numeral-value,
   numeral-missing,
   head-sides,
+  head-is,
+  head-none,
   no-width,
   no-height,
   no-last,
@@ -23,7 +26,7 @@ enum-told : tie.Need-enum-told
 enum-told c = search needs
 
 returns : tie.Need-returns
-returns c = no-width _ (numeral-missing _ _ _ (c .before .before .next-number .ensures) (c .enum-told .given .1))
+returns c = head-none (no-width _ (numeral-missing _ _ _ (c .before .before .next-number .ensures) (c .enum-told .given .1)))
 
 next-number-requires-2 : tie.Need-next-number-requires-2
 next-number-requires-2 c κs =
@@ -39,8 +42,9 @@ enum-told-2 c = search needs
 returns-2 : tie.Need-returns-2
 returns-2 c =
     let g = c .before .before .before .before in
-    no-height _ _ _ (numeral-value _ _ _ _ _ (g .before .before .next-number .ensures) (g .width .given .1) .1)
-    (numeral-missing _ _ _ (c .before .before .next-number2 .ensures) (c .enum-told2 .given .1))
+    head-none
+    (no-height _ _ _ (numeral-value _ _ _ _ _ (g .before .before .next-number .ensures) (g .width .given .1) .1)
+    (numeral-missing _ _ _ (c .before .before .next-number2 .ensures) (c .enum-told2 .given .1)))
 
 one-blank-requires : tie.Need-one-blank-requires
 one-blank-requires c κs =
@@ -58,20 +62,20 @@ returns-3 c =
     let j = c .before in
     let k = j .before .before .before .before in
     let g = k .before .before .before .before in
-    let e = gap-ends _ _ _ _ (j .before .before .one-blank .ensures) (j .last .given .1) in (
-      e .0,
-      head-sides _ _ _ _ _ _ (numeral-value _ _ _ _ _ (g .before .before .next-number .ensures) (g .width .given .1) .1)
-          (numeral-value _ _ _ _ _ (k .before .before .next-number2 .ensures) (k .height .given .1) .1)
-          (e .1),
-    )
+    let e = gap-ends _ _ _ _ (j .before .before .one-blank .ensures) (j .last .given .1) in
+    head-is (e .0)
+    (head-sides _ _ _ _ _ _ (numeral-value _ _ _ _ _ (g .before .before .next-number .ensures) (g .width .given .1) .1)
+    (numeral-value _ _ _ _ _ (k .before .before .next-number2 .ensures) (k .height .given .1) .1)
+    (e .1))
 
 returns-4 : tie.Need-returns-4
 returns-4 c =
     let k = c .before .before .before .before in
     let g = k .before .before .before .before in
-    no-last _ _ _ _ _ (numeral-value _ _ _ _ _ (g .before .before .next-number .ensures) (g .width .given .1) .1)
+    head-none
+    (no-last _ _ _ _ _ (numeral-value _ _ _ _ _ (g .before .before .next-number .ensures) (g .width .given .1) .1)
     (numeral-value _ _ _ _ _ (k .before .before .next-number2 .ensures) (k .height .given .1) .1)
-    (gap-missing _ _ _ (c .before .before .one-blank .ensures) (c .enum-told3 .given .1))
+    (gap-missing _ _ _ (c .before .before .one-blank .ensures) (c .enum-told3 .given .1)))
 
 pub header-spec : {M : Type 1} → statement M
 header-spec =

@@ -1,4 +1,5 @@
--- `is_blank` meets its contract: each test that holds names a blank, and a byte that passes them all is none.
+-- `is_blank` meets its contract: each test that holds names a blank, and a byte that passes them
+-- all is none.
 use mathlib.Core.Path.{_≡_}
 use Prim.Native.Nat.{ℕ}
 use Rattle.mapfile.specs.Header.{Blank, space, tab, return, feed}

@@ -1,4 +1,5 @@
--- `is_line_end` meets its contract: each test that holds names an end, and a byte that passes both is none.
+-- `is_line_end` meets its contract: each test that holds names an end, and a byte that passes both
+-- is none.
 use mathlib.Core.Path.{_≡_}
 use Prim.Native.Nat.{ℕ}
 use Rattle.mapfile.specs.Header.{LineEnd, at-return, at-feed}

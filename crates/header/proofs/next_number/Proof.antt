@@ -1,4 +1,5 @@
--- `next_number` meets its contract: the number is read from where the separator ends, and where there is no separator there is no number.
+-- `next_number` meets its contract: the number is read from where the separator ends, and where
+-- there is no separator there is no number.
 use Rattle.header.proofs.Heading.{gap-ends, gap-missing, next-some, next-none}
 use borrow.Author.Needs.{needs}
 use Rattle.header.proofs.next_number.Statement.{statement}

@@ -1,4 +1,5 @@
--- `number` meets its contract: the loop keeps Numbering, and the value stays small enough for a tenth of what a `usize` holds.
+-- `number` meets its contract: the loop keeps Numbering, and the value stays small enough for a
+-- tenth of what a `usize` holds.
 use Prim.Native.Nat.{_-_}
 use native.Mathlib.Omega.{arith}
 use borrow.Author.Tests.{not-true, not-false}

@@ -1,4 +1,5 @@
--- `one_blank` meets its contract: the byte at the place is a blank, and the rest begins after it; or it is none, or there is no byte.
+-- `one_blank` meets its contract: the byte at the place is a blank, and the rest begins after it;
+-- or it is none, or there is no byte.
 use mathlib.Core.Path.{refl}
 use native.Mathlib.Omega.{arith}
 use borrow.Author.Tests.{not-true, not-false}

@@ -1,4 +1,5 @@
--- `separator` meets its contract: the skippers' one number, with 0 and every other number told apart.
+-- `separator` meets its contract: the skippers' one number, with 0 and every other number told
+-- apart.
 use mathlib.Core.Path.{subst, ap, sym}
 use Rattle.header.specs.HeaderParts.{GapRead, gapAt}
 use Rattle.header.specs.Answers.{never-true}

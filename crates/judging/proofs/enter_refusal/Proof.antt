@@ -4,7 +4,7 @@ use mathlib.Core.Logic.{inl, inr, ⊎-elim}
 use native.Mathlib.Omega.{arith}
 use borrow.Author.Needs.{needs}
 use Rattle.field.specs.Limits.{most-markers-is}
-use Rattle.judging.proofs.Told.{told-no, told-yes}
+use Rattle.sheets.proofs.Told.{told-no, told-yes}
 use Rattle.judging.proofs.enter_refusal.Statement.{statement}
 use Rattle.judging.proofs.enter_refusal.Tie as tie
 

@@ -1,7 +1,7 @@
 -- `fits` meets its contract: the sides are within the limit where the product is made.
 use borrow.Author.Needs.{needs}
 use borrow.Author.Tests.{eqb-true, eq-eqb}
-use Rattle.judging.proofs.Told.{refused, told-no, told-yes, crossings-fit}
+use Rattle.sheets.proofs.Told.{refused, told-no, told-yes, crossings-fit}
 use Rattle.judging.proofs.fits.Statement.{statement}
 use Rattle.judging.proofs.fits.Tie as tie
 

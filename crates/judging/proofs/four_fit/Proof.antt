@@ -1,6 +1,6 @@
 -- `four_fit` meets its contract: the sheets are tested one by one.
 use borrow.Author.Needs.{needs}
-use Rattle.judging.proofs.Told.{refused, told-no, told-yes}
+use Rattle.sheets.proofs.Told.{refused, told-no, told-yes}
 use Rattle.judging.proofs.four_fit.Statement.{statement}
 use Rattle.judging.proofs.four_fit.Tie as tie
 

@@ -3,7 +3,7 @@ use mathlib.Core.Path.{refl}
 use mathlib.Core.Logic.{inl, inr}
 use borrow.Author.Needs.{needs}
 use borrow.Author.Tests.{not-true}
-use Rattle.judging.proofs.Told.{told-no, told-yes, yes-no}
+use Rattle.sheets.proofs.Told.{told-no, told-yes, yes-no}
 use Rattle.judging.proofs.list_refusal.Statement.{statement}
 use Rattle.judging.proofs.list_refusal.Tie as tie
 

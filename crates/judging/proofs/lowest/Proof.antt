@@ -4,7 +4,7 @@ use mathlib.Core.Logic.{inl, inr, ⊎-elim}
 use native.Mathlib.Omega.{arith}
 use borrow.Author.Needs.{needs}
 use borrow.Author.Tests.{not-true}
-use Rattle.judging.proofs.Told.{told-no, told-yes, yes-no, crossings-fit}
+use Rattle.sheets.proofs.Told.{told-no, told-yes, yes-no, crossings-fit}
 use Rattle.judging.proofs.lowest.Statement.{statement}
 use Rattle.judging.proofs.lowest.Tie as tie
 

@@ -1,7 +1,7 @@
 -- `on_map` meets its contract: it tests x, then y.
 use native.Mathlib.Omega.{arith}
 use borrow.Author.Tests.{ltb-true, lt-ltb}
-use Rattle.judging.proofs.Told.{refused}
+use Rattle.sheets.proofs.Told.{refused}
 use Rattle.judging.proofs.on_map.Statement.{statement}
 use Rattle.judging.proofs.on_map.Tie as tie
 

@@ -1,5 +1,6 @@
--- The settled sheet is the label sheet, and what it counts for is what labelling hands back. Of each crossing of a label sheet its byte tells
--- whether it is a rock, shut, or a corner; so the bits count the crossings that are. The corners are as many as the groups.
+-- The settled sheet is the label sheet, and what it counts for is what labelling hands back. Of
+-- each crossing of a label sheet its byte tells whether it is a rock, shut, or a corner; so the
+-- bits count the crossings that are. The corners are as many as the groups.
 use mathlib.Core.Path.{_≡_, refl, sym, ap, _∙_}
 use mathlib.Core.List.{List}
 use mathlib.Core.Logic.{inl}

@@ -1,4 +1,5 @@
--- Settling row by row: what the loops keep. The crossings passed are settled and counted; the others are as they were.
+-- Settling row by row: what the loops keep. The crossings passed are settled and counted; the
+-- others are as they were.
 use mathlib.Core.Path.{_≡_, refl, sym, _∙_}
 use mathlib.Core.List.{List}
 use Prim.Native.Nat.{ℕ, _+_, _*_, _^_, _<_, _≤_}

@@ -1,5 +1,5 @@
--- Settling the sheet, crossing by crossing. A byte counts for the same with its note and without it: so each count can be said of the sheet as it
--- was at first.
+-- Settling the sheet, crossing by crossing. A byte counts for the same with its note and without
+-- it: so each count can be said of the sheet as it was at first.
 use mathlib.Core.Path.{_≡_, refl, sym, ap, _∙_}
 use mathlib.Core.List.{List}
 use mathlib.Core.Logic.{_⊎_, inl, inr}

@@ -1,4 +1,5 @@
--- `labels::label` meets its contract: closing leaves the labels with notes, and settling takes the notes off and counts.
+-- `labels::label` meets its contract: closing leaves the labels with notes, and settling takes the
+-- notes off and counts.
 use Rattle.labels.proofs.Laws.Labels.{worked-labels}
 use borrow.Author.Needs.{needs}
 use Rattle.labels.proofs.label.Statement.{statement}

@@ -1,5 +1,6 @@
--- Clearing has one outcome: there is a list that Cleared allows, made slot by slot, and any two that it allows are equal, since it says what stands
--- in each slot and the id stands in one slot only.
+-- Clearing has one outcome: there is a list that Cleared allows, made slot by slot, and any two
+-- that it allows are equal, since it says what stands in each slot and the id stands in one slot
+-- only.
 use mathlib.Core.Path.{_≡_, sym, ap, _∙_}
 use mathlib.Core.List.{List}
 use Prim.Native.Nat.{ℕ, _+_, _<_, _≤_}
@@ -13,7 +14,8 @@ use Rattle.markers.specs.List.{slot, InUse, Cleared}
 use Rattle.markers.specs.Laws.Rising.{RisingIds, id-one}
 use Rattle.markers.specs.Laws.Making.{slots, slots-size, slots-at, pick, pick-yes, pick-no}
 
--- What clearing leaves in slot k: below the place and past the count what stood there, in the slot freed zeros, between them what stood one above.
+-- What clearing leaves in slot k: below the place and past the count what stood there, in the slot
+-- freed zeros, between them what stood one above.
 clearedSlot : List Marker → ℕ → ℕ → ℕ → Marker
 clearedSlot list count place k =
     pick (decLt k place) (slot list k) (pick (decLt (k + 1) count) (slot list (k + 1)) (pick (decLt k count) blank (slot list k)))

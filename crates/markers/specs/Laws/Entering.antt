@@ -1,5 +1,5 @@
--- Entering has one outcome: there is a list that Entered allows, made slot by slot, and any two that it allows are equal, since it says what stands
--- in each slot and the ids settle the place.
+-- Entering has one outcome: there is a list that Entered allows, made slot by slot, and any two
+-- that it allows are equal, since it says what stands in each slot and the ids settle the place.
 use mathlib.Core.Path.{_≡_, refl, sym, ap, _∙_}
 use mathlib.Core.List.{List}
 use Prim.Native.Nat.{ℕ, zero, suc, _+_, _-_, _<_, _≤_}
@@ -14,7 +14,8 @@ use Rattle.markers.specs.Laws.Rising.{RisingIds, rises-lt}
 use Rattle.markers.specs.Laws.Moves.{entered-above}
 use Rattle.markers.specs.Laws.Making.{slots, slots-size, slots-at, pick, pick-yes, pick-no}
 
--- What entering leaves in slot k: below the place and past the count what stood there, at the place the marker, between them what stood one below.
+-- What entering leaves in slot k: below the place and past the count what stood there, at the place
+-- the marker, between them what stood one below.
 enteredSlot : List Marker → ℕ → Marker → ℕ → ℕ → Marker
 enteredSlot list count m place k =
     pick (decLt k place) (slot list k) (pick (ℕ-discrete k place) m (pick (decLt count k) (slot list k) (slot list (k - 1))))
@@ -46,7 +47,8 @@ entered-slot {list} {after} {count} {m} e k = go (decLt k (e .place)) (ℕ-discr
     go (no p) (no q) (yes r) = e .rest k r ∙ sym (slot-past list count m (e .place) k (e .within) r)
     go (no p) (no q) (no r) = entered-above e k (omega arith) (omega arith) ∙ sym (slot-above list count m (e .place) k (omega arith) (omega arith))
 
--- All ids below the place are lower than the one entered and all from it on higher: so there is one such place.
+-- All ids below the place are lower than the one entered and all from it on higher: so there is one
+-- such place.
 entered-place : {list a b : List Marker} {count : ℕ} {m : Marker} (p : Entered list count m a) (q : Entered list count m b) → p .place ≤ q .place
 entered-place {m = m} p q = go (decLt (q .place) (p .place))
   where

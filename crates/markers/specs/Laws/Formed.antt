@@ -1,4 +1,5 @@
--- Entering a marker of the map with a new id, where there is a slot, and clearing an id in use keep a list well formed.
+-- Entering a marker of the map with a new id, where there is a slot, and clearing an id in use keep
+-- a list well formed.
 use mathlib.Core.Path.{_≡_, sym, subst, ap, _∙_}
 use mathlib.Core.List.{List}
 use mathlib.Core.Logic.{_⊎_, inl, inr}

@@ -1,5 +1,6 @@
--- Where the markers go. Entering moves each marker in use to a slot in use and adds the one entered; clearing moves each marker in use, but the one
--- cleared, to a slot in use; and nothing else stands in a slot in use.
+-- Where the markers go. Entering moves each marker in use to a slot in use and adds the one
+-- entered; clearing moves each marker in use, but the one cleared, to a slot in use; and nothing
+-- else stands in a slot in use.
 use mathlib.Core.Path.{_≡_, sym, ap, _∙_}
 use mathlib.Core.List.{List}
 use mathlib.Core.Logic.{_⊎_, inl, inr}

@@ -1,5 +1,6 @@
--- Where an id stands or belongs, searched by halves: every id below lo is less than it, every id from hi on is at least it. The ids rise, so the one
--- in the middle settles all on one side of it. The k-th id is f k, however the list is lent.
+-- Where an id stands or belongs, searched by halves: every id below lo is less than it, every id
+-- from hi on is at least it. The ids rise, so the one in the middle settles all on one side of it.
+-- The k-th id is f k, however the list is lent.
 use Prim.Native.Nat.{ℕ, _+_, _<_, _≤_}
 use native.Mathlib.Omega.{arith}
 use Rattle.markers.specs.Laws.Rising.{Rises, rises-le}

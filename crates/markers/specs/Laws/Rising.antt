@@ -1,4 +1,5 @@
--- Numbers that rise from each place to the next, up to a count, rise over every stretch: so a number, an id, stands in one place only.
+-- Numbers that rise from each place to the next, up to a count, rise over every stretch: so a
+-- number, an id, stands in one place only.
 use mathlib.Core.Path.{_≡_, ap}
 use mathlib.Core.List.{List}
 use Prim.Native.Nat.{ℕ, zero, suc, _+_, _-_, _<_, _≤_}

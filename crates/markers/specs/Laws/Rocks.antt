@@ -1,5 +1,5 @@
--- Rocks by slots: a crossing is a rock where a marker in use stands on it. Entering adds the rock of the marker entered; clearing takes one away only
--- where no other marker stands on its crossing.
+-- Rocks by slots: a crossing is a rock where a marker in use stands on it. Entering adds the rock
+-- of the marker entered; clearing takes one away only where no other marker stands on its crossing.
 use mathlib.Core.Path.{_≡_, sym, ap, _∙_}
 use mathlib.Core.List.{List}
 use mathlib.Core.Logic.{_⊎_, inl, inr, _↔_}
@@ -89,7 +89,8 @@ module _ {list after : List Marker} {count id : ℕ} (next x y : ℕ) (lent : co
       apart : ¬ (s .place ≡ c .place)
       apart q = s .other (ap (λ (k : ℕ). slot list k .id) q ∙ c .is)
 
-  -- Every rock after clearing has a marker of another id on it, since ids rise and no other marker bears the one cleared.
+  -- Every rock after clearing has a marker of another id on it, since ids rise and no other marker
+  -- bears the one cleared.
   pub rock-clear-from : RisingIds list count → Rock (inUse after next) x y → OtherStands list count id x y
   rock-clear-from r k = go (rock-stands after next x y k)
     where

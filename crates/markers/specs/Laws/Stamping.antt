@@ -1,5 +1,5 @@
--- A sheet being stamped, marker by marker: its marks are the crossings of the markers passed, each 1 however many stand there. The k-th marker stands on
--- (x k, y k), however the list is lent.
+-- A sheet being stamped, marker by marker: its marks are the crossings of the markers passed, each
+-- 1 however many stand there. The k-th marker stands on (x k, y k), however the list is lent.
 use mathlib.Core.Path.{_≡_, sym, ap, _∙_}
 use mathlib.Core.List.{List}
 use Prim.Native.Nat.{ℕ, suc, _+_, _*_, _<_, _≤_}

@@ -1,5 +1,6 @@
--- How often each marker stands in a list: some one number of times. Entering makes it once more for the marker entered, clearing once less for the
--- one cleared, and every other marker stands in the list after exactly as often as before.
+-- How often each marker stands in a list: some one number of times. Entering makes it once more for
+-- the marker entered, clearing once less for the one cleared, and every other marker stands in the
+-- list after exactly as often as before.
 use mathlib.Core.Path.{_≡_, refl, sym, subst, ap, _∙_}
 use mathlib.Core.List.{List, [], _∷_}
 use Prim.Native.Nat.{ℕ, zero, suc, _+_, _<_, _≤_}
@@ -142,7 +143,8 @@ module _ {list after : List Marker} {count : ℕ} {m : Marker} (room : count < l
   pub entered-once : ¬ InUse list count (m .id) → Times m (inUse after (count + 1)) 1
   entered-once new = entered-itself (times-fresh new)
 
--- The marker cleared stood in the list once more than it stands there after, and every other one as often as after.
+-- The marker cleared stood in the list once more than it stands there after, and every other one as
+-- often as after.
 module _ {list after : List Marker} {count id : ℕ} (next : ℕ) (lent : count ≤ length list) (c : Cleared list count id after)
     (n : next + 1 ≡ count) where
   pub cleared-other : {m : Marker} {t : ℕ} → ¬ Same (slot list (c .place)) m → Times m (inUse list count) t → Times m (inUse after next) t

@@ -1,4 +1,5 @@
--- `write_row` meets its contract: after k turns the first k bytes of the row stand at the front of its part.
+-- `write_row` meets its contract: after k turns the first k bytes of the row stand at the front of
+-- its part.
 use Prim.Native.Nat.{ℕ, _*_, _-_}
 use native.Mathlib.Omega.{arith}
 use mathlib.Core.Path.{_≡_, ap, _∙_}

@@ -68,7 +68,8 @@ part-write-row-end c =
     let l = c .before .loop in
     omega (arith, row-ends c, filled-length _ _ _ (l .out) (l .inv .1))
 
--- The sheet has row y whole, and so it has row r: a slip between the two is refused by what stands written, not here.
+-- The sheet has row y whole, and so it has row r: a slip between the two is refused by what stands
+-- written, not here.
 write-row-requires : tie.Need-write-row-requires Inv-loop μ-loop
 unfolding rowBytes
 write-row-requires c κs =

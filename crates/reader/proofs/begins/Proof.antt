@@ -1,4 +1,5 @@
--- `begins` meets its contract: at each return the tests say which of the three facts fails, or that all hold.
+-- `begins` meets its contract: at each return the tests say which of the three facts fails, or that
+-- all hold.
 use native.Mathlib.Omega.{arith}
 use borrow.Author.Needs.{needs}
 use Rattle.header.specs.Answers.{answer-no}

@@ -1,4 +1,5 @@
--- `read` meets its promise: the letters name a format, and the rest is read in it; or they name none.
+-- `read` meets its promise: the letters name a format, and the rest is read in it; or they name
+-- none.
 use Rattle.reader.proofs.FirstTwo.{letters-plain, letters-raw, letters-none}
 use Rattle.reader.proofs.Joining.{file-no-letters}
 use borrow.Author.Needs.{needs}

@@ -1,4 +1,5 @@
--- `read_map` meets its contract: no header, sides out of bounds, or what reading the raster finds, in that order.
+-- `read_map` meets its contract: no header, sides out of bounds, or what reading the raster finds,
+-- in that order.
 use native.Mathlib.Omega.{arith}
 use borrow.Author.Tests.{not-true, not-false}
 use lib.ListN.{drop}

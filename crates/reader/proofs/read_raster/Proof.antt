@@ -1,4 +1,5 @@
--- `read_raster` meets its contract: it is refused for a fault or for want of slots, in that order, or its bits are had.
+-- `read_raster` meets its contract: it is refused for a fault or for want of slots, in that order,
+-- or its bits are had.
 use borrow.Author.Needs.{needs}
 use Rattle.reader.proofs.Joining.{raster-refused, raster-fine, raster-taken}
 use Rattle.reader.proofs.read_raster.Statement.{statement}

@@ -1,7 +1,7 @@
--- `region` meets its promise. What stands at an end tells whether it is open; the two passes make the region sheet; and what stands there at s
--- tells whether there is a shortest drive.
-use mathlib.Core.Path.{refl}
+-- `region` meets its promise. What stands at an end tells whether it is open; the two passes make
+-- the region sheet; and what stands there at s tells whether there is a shortest drive.
 use mathlib.Core.Logic.{inl, inr}
+use Rattle.regions.proofs.Finding.{finds-closed, finds-none, finds-some}
 use Rattle.regions.proofs.RegionMade.{region-made, end-closed, end-open, no-way, some-way}
 use borrow.Author.Needs.{needs}
 use Rattle.regions.proofs.region.Statement.{statement}
@@ -16,7 +16,7 @@ shared-slice-read-if1 c = search needs
 returns : tie.Need-returns
 returns c =
     let n = c .before .before in
-    (inl (end-closed _ (n .before .before .before .pre .from) (n .number-of .ensures .is) (c .if1 .taken)), refl)
+    finds-closed _ (inl (end-closed _ (n .before .before .before .pre .from) (n .number-of .ensures .is) (c .if1 .taken)))
 
 number-of-requires-2 : tie.Need-number-of-requires-2
 number-of-requires-2 c κs = search needs
@@ -27,7 +27,7 @@ shared-slice-read-if2 c = search needs
 returns-2 : tie.Need-returns-2
 returns-2 c =
     let n = c .before .before in
-    (inr (end-closed _ (n .before .before .before .before .before .before .pre .to) (n .number-of2 .ensures .is) (c .if2 .taken)), refl)
+    finds-closed _ (inr (end-closed _ (n .before .before .before .before .before .before .pre .to) (n .number-of2 .ensures .is) (c .if2 .taken)))
 
 wipe-requires : tie.Need-wipe-requires
 wipe-requires c κs = search needs
@@ -53,14 +53,9 @@ returns-3 c =
     let m = t .before .before in
     let n = m .before .before .before in
     let k = n .before .before .before .pre in
-    let r = region-made _ _ _ _ _ _ _ (z .wipe .ensures) (q .spread .ensures) (p .sift .ensures) (k .region) in (
-      record {
-        from = end-open _ (k .from) (n .number-of .ensures .is) (m .before .if1 .left);
-        to = end-open _ (k .to) (m .number-of2 .ensures .is) (t .if2 .left);
-        none = no-way _ r (k .from) (n .number-of .ensures .is) (c .if3 .taken);
-      },
-      r,
-    )
+    let r = region-made _ _ _ _ _ _ _ (z .wipe .ensures) (q .spread .ensures) (p .sift .ensures) (k .region) in
+    finds-none _ (end-open _ (k .from) (n .number-of .ensures .is) (m .before .if1 .left)) (end-open _ (k .to) (m .number-of2 .ensures .is) (t .if2 .left))
+    (no-way _ r (k .from) (n .number-of .ensures .is) (c .if3 .taken)) r
 
 same-length-2 : tie.Need-same-length-2
 same-length-2 c = search needs
@@ -74,7 +69,7 @@ returns-4 c =
     let n = m .before .before .before in
     let k = n .before .before .before .pre in
     let r = region-made _ _ _ _ _ _ _ (z .wipe .ensures) (q .spread .ensures) (p .sift .ensures) (k .region) in
-    (some-way _ r (k .from) (n .number-of .ensures .is) (c .if3 .left), r)
+    finds-some _ (some-way _ r (k .from) (n .number-of .ensures .is) (c .if3 .left)) r
 
 pub region-spec : {M : Type 1} → statement M
 region-spec =

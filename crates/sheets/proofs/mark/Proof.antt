@@ -1,4 +1,5 @@
--- `mark` meets its contract: a crossing's number is below the number of crossings, which is the sheet's length.
+-- `mark` meets its contract: a crossing's number is below the number of crossings, which is the
+-- sheet's length.
 use native.Mathlib.Omega.{arith}
 use borrow.Author.Needs.{needs}
 use Rattle.field.specs.Workings.Sheet.{number-lt}

@@ -1,5 +1,6 @@
--- Laws of a sheet's bytes while crossings are closed: a byte is one of a closed or of an open crossing; writing one byte changes it alone; and the
--- number of open crossings goes by what is written.
+-- Laws of a sheet's bytes while crossings are closed: a byte is one of a closed or of an open
+-- crossing; writing one byte changes it alone; and the number of open crossings goes by what is
+-- written.
 use mathlib.Core.Path.{_≡_, refl, ap, _∙_}
 use mathlib.Core.List.{List}
 use mathlib.Core.Logic.{_⊎_, inl, inr}

@@ -1,4 +1,5 @@
--- Laws of notes: every neighbour has a note that names it; a note names one neighbour, and two notes name two.
+-- Laws of notes: every neighbour has a note that names it; a note names one neighbour, and two
+-- notes name two.
 use mathlib.Core.Path.{_≡_, refl, sym, ap, _∙_}
 use Prim.Native.Nat.{ℕ, _+_, _*_, _-_, _<_}
 use native.Mathlib.Omega.{arith}

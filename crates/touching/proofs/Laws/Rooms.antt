@@ -1,5 +1,6 @@
--- Room on the stack, and how long the work lasts. A crossing that is put on the stack was open so far and is closed from then on: so the crossings
--- on the stack and the open ones are together as many after a step as before, and never more than the map has.
+-- Room on the stack, and how long the work lasts. A crossing that is put on the stack was open so
+-- far and is closed from then on: so the crossings on the stack and the open ones are together as
+-- many after a step as before, and never more than the map has.
 use mathlib.Core.Path.{_≡_, refl, ap, _∙_}
 use mathlib.Core.List.{List}
 use mathlib.Core.Logic.{inl, inr}

@@ -1,4 +1,5 @@
--- `closing::look_around` meets its contract: it is four looks, one after the other, and after each there is room for the next.
+-- `closing::look_around` meets its contract: it is four looks, one after the other, and after each
+-- there is room for the next.
 use borrow.Author.Needs.{needs}
 use Rattle.touching.proofs.Laws.Rooms.{looking-step}
 use Rattle.touching.proofs.look_around.Statement.{statement}

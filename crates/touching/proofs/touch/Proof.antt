@@ -1,5 +1,5 @@
--- `closing::touch` meets its contract: each way through it is one case of `Touched`. Where it shuts the crossing, the byte was a note, so that the
--- crossing was open and the stack has room.
+-- `closing::touch` meets its contract: each way through it is one case of `Touched`. Where it shuts
+-- the crossing, the byte was a note, so that the crossing was open and the stack has room.
 use mathlib.Core.Path.{refl}
 use mathlib.Core.Logic.{inl, inr}
 use Prim.Native.Nat.{_<_}

@@ -27,7 +27,8 @@ row-ends c =
     let a = c .before .before .before .before .args in
     omega (arith, piece-end (c .before .loop .y) (a .h) (a .w) (omega arith), c .before .before .before .before .pre .size)
 
--- The raster has the row of y whole, and that of r: a slip between the two is refused by what stands on the sheet, not here.
+-- The raster has the row of y whole, and that of r: a slip between the two is refused by what
+-- stands on the sheet, not here.
 row-lies : (c : tie.In-loop Inv-loop μ-loop) →
     let a = c .before .before .before .before .args in
     let y = c .before .loop .y in

@@ -1,4 +1,5 @@
--- `write` meets its promise: header and rows fill the output from the front, and together they are the file.
+-- `write` meets its promise: header and rows fill the output from the front, and together they are
+-- the file.
 use Prim.Native.Nat.{ℕ, _+_, _*_, _-_, _/_, _≤_}
 use native.Mathlib.Omega.{arith}
 use native.Mathlib.Nat.{mul-le-mul-left}
@@ -6,40 +7,38 @@ use mathlib.Core.Path.{_≡_, refl, sym, _∙_}
 use mathlib.Core.List.{List, []}
 use lib.ListN.{length}
 use borrow.Rule.Slice.PartMut.{midOf, putMid}
-use Rattle.field.specs.Map.{side}
 use Rattle.mapfile.specs.Raster.{rowBytes}
-use Rattle.writer.specs.Digits.{ShortNumber}
+use Rattle.mapfile.specs.Header.{most-digits}
 use Rattle.packing.specs.PackingLaws.{piece-end}
-use Rattle.writer.specs.FileLaws.{fileOf, file-length, file-written}
+use Rattle.writer.specs.FileLaws.{fileOf, side-few, file-length, file-written}
 use Rattle.packing.proofs.Filling.{Filled, filled-none, filled-lent, filled-part}
 use borrow.Author.Needs.{needs}
 use Rattle.writer.proofs.write.Statement.{statement}
 use Rattle.writer.proofs.write.Tie as tie
-
--- A side is a short number: ten thousand is past the limit.
-side-short : (v : ℕ) → 1 ≤ v → v ≤ side → ShortNumber v
-unfolding side
-side-short v p q = record { some = p; short = omega arith }
 
 -- The rows take no more bytes than the sheet has.
 rows-few : (w h : ℕ) → 1 ≤ w → h * ((w + 7) / 8) ≤ h * w
 rows-few w h p = mul-le-mul-left h (omega arith)
 
 digit-count-requires : tie.Need-digit-count-requires
-digit-count-requires c κs =
-    let p = c .before .before .pre .sides in
-    side-short (c .before .before .args .w) (p .some-w) (p .most-w)
+digit-count-requires c κs = search needs
 
 digit-count-requires-2 : tie.Need-digit-count-requires-2
-digit-count-requires-2 c κs =
-    let p = c .before .before .before .pre .sides in
-    side-short (c .before .before .before .args .h) (p .some-h) (p .most-h)
+digit-count-requires-2 c κs = search needs
+
+-- Neither side has more digits than the grammar allows.
+sides-few : (c : tie.After-digit-count2) → (c .before .digit-count .result ≤ most-digits) × (c .digit-count2 .result ≤ most-digits)
+sides-few c =
+    let p = c .before .before .before .before .pre .sides in
+    (side-few (p .most-w) (c .before .digit-count .ensures), side-few (p .most-h) (c .digit-count2 .ensures))
 
 add-start : tie.Need-add-start
-add-start c = search needs
+unfolding most-digits
+add-start c = omega (arith, sides-few c)
 
 add-start-2 : tie.Need-add-start-2
-add-start-2 c = search needs
+unfolding most-digits
+add-start-2 c = omega (arith, sides-few c)
 
 add-end : tie.Need-add-end
 add-end c =
@@ -54,10 +53,11 @@ mul-end c =
     omega (arith, rows-few (a .w) (a .h) (p .sides .some-w), p .size)
 
 add-end-2 : tie.Need-add-end-2
+unfolding most-digits
 add-end-2 c =
     let a = c .before .before .before .before .args in
     let p = c .before .before .before .before .pre in
-    omega (arith, rows-few (a .w) (a .h) (p .sides .some-w), p .size, c .before .digit-count .ensures .few, c .digit-count2 .ensures .few)
+    omega (arith, rows-few (a .w) (a .h) (p .sides .some-w), p .size, sides-few c)
 
 returns : tie.Need-returns
 unfolding rowBytes
@@ -67,7 +67,7 @@ returns c =
     let height = c .before .digit-count2 in
     record {
       file = fileOf (a .s .now) (a .w) (width .result) (a .h) (height .result);
-      written = file-written (a .s .now) (a .w) (width .result) (a .h) (height .result) (width .ensures) (height .ensures);
+      written = file-written (a .s .now) (a .w) (width .result) (a .h) (height .result) (c .before .before .before .before .before .pre .sides) (width .ensures) (height .ensures);
       long = omega (arith, file-length (a .s .now) (a .w) (width .result) (a .h) (height .result));
       same = refl;
     }
@@ -129,7 +129,7 @@ returns-2 c =
     let both = filled-part (header .last .0) start (a .out .now) _ first end (rows .last .0) (omega arith) room (rows .kept .0) in
     record {
       file = fileOf (a .s .now) (a .w) (width .result) (a .h) (height .result);
-      written = file-written (a .s .now) (a .w) (width .result) (a .h) (height .result) (width .ensures) (height .ensures);
+      written = file-written (a .s .now) (a .w) (width .result) (a .h) (height .result) (c .before .before .before .before .before .before .before .before .before .before .before .before .before .pre .sides) (width .ensures) (height .ensures);
       counted = sym (file-length (a .s .now) (a .w) (width .result) (a .h) (height .result));
       fits = room;
       is = both .is ∙ rw (header .ensures, rows .ensures);

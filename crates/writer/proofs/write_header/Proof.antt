@@ -1,4 +1,5 @@
--- `write_header` meets its contract: the slice is filled from the front, part by part and byte by byte, and each piece is the next of the header.
+-- `write_header` meets its contract: the slice is filled from the front, part by part and byte by
+-- byte, and each piece is the next of the header.
 use Prim.Native.Nat.{ℕ, _+_, _-_}
 use native.Mathlib.Omega.{arith}
 use mathlib.Core.Path.{_≡_, ap, _∙_}
@@ -12,7 +13,8 @@ use borrow.Author.Needs.{needs}
 use Rattle.writer.proofs.write_header.Statement.{statement}
 use Rattle.writer.proofs.write_header.Tie as tie
 
--- The slice as it is after each piece: l stands where the letters go, p where the width goes, q where the height goes.
+-- The slice as it is after each piece: l stands where the letters go, p where the width goes, q
+-- where the height goes.
 abbrev lettered : List ℕ → List ℕ → List ℕ
 lettered xs l = putMid 0 3 xs l
 

@@ -1,4 +1,5 @@
--- `write_number` meets its contract: the k lowest digits of the rest, with what stands from k on, are always the digits of the number.
+-- `write_number` meets its contract: the k lowest digits of the rest, with what stands from k on,
+-- are always the digits of the number.
 use Prim.Native.Nat.{ℕ, zero, suc, _+_, _-_, _/_, _%_, _≤_, _<_}
 use native.Mathlib.Omega.{arith}
 use mathlib.Core.Path.{_≡_, refl, sym, ap, _∙_}

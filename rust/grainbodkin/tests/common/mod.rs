@@ -49,7 +49,8 @@ pub fn owned(rocks: &[(u16, u16)]) -> Markers {
     markers
 }
 
-/// Everything that an asking may be lent besides the list. Its bytes are none that a call would write.
+/// Everything that an asking may be lent besides the list. Its bytes are none that a call would
+/// write.
 #[derive(Clone, Debug, PartialEq)]
 pub struct Lent {
     pub labels: Vec<u8>,

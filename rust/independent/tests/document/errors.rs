@@ -1,4 +1,5 @@
-//! The errors that look reasonable: the independent program makes none of them. One of them, the single pass, is made here by hand beside it.
+//! The errors that look reasonable: the independent program makes none of them. One of them, the
+//! single pass, is made here by hand beside it.
 use crate::common::*;
 use independent::drives::{drive, region_of};
 use independent::files::{read, write};
@@ -33,7 +34,8 @@ fn both_neighbours_on_one_axis() {
     assert_eq!(shut(&labelled(&[(1, 1), (1, 3)])), set(&[(1, 2)]));
 }
 
-/// One pass in number order is not enough: here (1,3) closes only after (2,3), which has the higher number.
+/// One pass in number order is not enough: here (1,3) closes only after (2,3), which has the higher
+/// number.
 #[test]
 fn one_pass_is_not_finished() {
     let on = labelled(&[(0, 3), (3, 3), (2, 4)]);
@@ -79,7 +81,8 @@ fn top_raster_row_is_north() {
     assert_eq!(written.out, b"P4\n3 2\n\x80\x40\x4D");
 }
 
-/// Steered by open neighbours alone a drive from (0,0) to (7,3) in R can strand at (2,3); by the region it never comes there.
+/// Steered by open neighbours alone a drive from (0,0) to (7,3) in R can strand at (2,3); by the
+/// region it never comes there.
 #[test]
 fn a_drive_is_steered_by_the_region() {
     let on = labelled(&R);

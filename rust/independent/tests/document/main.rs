@@ -1,4 +1,5 @@
-//! The independent program held to document 01: its settled examples, its errors that look reasonable, its refusals and its map files.
+//! The independent program held to document 01: its settled examples, its errors that look
+//! reasonable, its refusals and its map files.
 mod common;
 mod errors;
 mod examples;

@@ -1,4 +1,5 @@
--- `chooser::choose` meets its contract: its branches are the cases of the choice. A hop is made only along a row or a column that has a candidate.
+-- `chooser::choose` meets its contract: its branches are the cases of the choice. A hop is made
+-- only along a row or a column that has a candidate.
 use mathlib.Core.Path.{refl, sym, _∙_}
 use mathlib.Core.Bool.{false≢true}
 use mathlib.Core.Logic.{⊎-elim}

@@ -1,5 +1,5 @@
--- `chooser::write_drive` meets its contract. The invariant: k hops are written, and what is written with the drive from (x, y) is the whole
--- drive. The measure is how many hops are still to be made.
+-- `chooser::write_drive` meets its contract. The invariant: k hops are written, and what is written
+-- with the drive from (x, y) is the whole drive. The measure is how many hops are still to be made.
 use mathlib.Core.Path.{_≡_}
 use Prim.Native.Nat.{_-_}
 use native.Mathlib.Omega.{arith}

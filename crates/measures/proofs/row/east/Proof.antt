@@ -1,4 +1,5 @@
--- `row::east` meets its contract. The invariant: the crossings passed have their distances, and the running number is what lies ahead of the next.
+-- `row::east` meets its contract. The invariant: the crossings passed have their distances, and the
+-- running number is what lies ahead of the next.
 use mathlib.Core.Path.{_≡_}
 use Prim.Native.Nat.{ℕ, _+_, _≤_}
 use native.Mathlib.Omega.{arith}

@@ -1,4 +1,5 @@
--- `row::next_north` meets its contract: at the edge there is no neighbour, and elsewhere its number is read.
+-- `row::next_north` meets its contract: at the edge there is no neighbour, and elsewhere its number
+-- is read.
 use mathlib.Core.Path.{refl}
 use Prim.Native.Nat.{_+_}
 use native.Mathlib.Omega.{arith}

@@ -1,5 +1,6 @@
--- `row::north` meets its contract. The invariant: the crossings passed have their distances. What lies ahead of the next stands in the row north
--- of it, which had its distances before and keeps them.
+-- `row::north` meets its contract. The invariant: the crossings passed have their distances. What
+-- lies ahead of the next stands in the row north of it, which had its distances before and keeps
+-- them.
 use mathlib.Core.Path.{_≡_}
 use Prim.Native.Nat.{_-_, _<_, _≤_}
 use native.Mathlib.Omega.{arith}

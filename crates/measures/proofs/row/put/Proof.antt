@@ -1,4 +1,5 @@
--- `row::put` meets its contract: a crossing's number is below the number of crossings, which is the length of both sheets.
+-- `row::put` meets its contract: a crossing's number is below the number of crossings, which is the
+-- length of both sheets.
 use mathlib.Core.Path.{refl}
 use native.Mathlib.Omega.{arith}
 use borrow.Author.Needs.{needs}

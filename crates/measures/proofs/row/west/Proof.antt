@@ -1,4 +1,5 @@
--- `row::west` meets its contract. The invariant: the crossings passed have their distances, and the running number is what lies ahead of the next.
+-- `row::west` meets its contract. The invariant: the crossings passed have their distances, and the
+-- running number is what lies ahead of the next.
 use mathlib.Core.Path.{_≡_, refl}
 use Prim.Native.Nat.{_-_, _<_, _≤_}
 use native.Mathlib.Omega.{arith}

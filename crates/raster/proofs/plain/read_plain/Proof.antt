@@ -1,4 +1,5 @@
--- `read_plain` meets its contract: the loop keeps ReadingPlain, and each return is a fault at the byte just met or the end of the bytes.
+-- `read_plain` meets its contract: the loop keeps ReadingPlain, and each return is a fault at the
+-- byte just met or the end of the bytes.
 use Prim.Native.Nat.{_-_}
 use native.Mathlib.Omega.{arith}
 use borrow.Author.Tests.{not-true, not-false}

@@ -1,4 +1,5 @@
--- `bit_at` meets its contract: a shift right is a division by a power of two, and what is left of it modulo 2 is the bit.
+-- `bit_at` meets its contract: a shift right is a division by a power of two, and what is left of
+-- it modulo 2 is the bit.
 use mathlib.Core.Path.{refl}
 use borrow.Author.Needs.{needs}
 use Rattle.raster.specs.RasterParts.{rowBit}

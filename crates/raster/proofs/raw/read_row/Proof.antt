@@ -1,4 +1,5 @@
--- `read_row` meets its contract: after x columns their bits stand from `at` on, and the rocks are the ones among them.
+-- `read_row` meets its contract: after x columns their bits stand from `at` on, and the rocks are
+-- the ones among them.
 use Prim.Native.Nat.{_-_, _≤_}
 use native.Mathlib.Omega.{arith}
 use Rattle.raster.proofs.PackedRows.{bit-small, byte-there, row-ones-few}

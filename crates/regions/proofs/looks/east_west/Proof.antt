@@ -1,4 +1,5 @@
--- `looks::east_west` meets its contract: the hop is on the map, and what stands there is what the definition looks at.
+-- `looks::east_west` meets its contract: the hop is on the map, and what stands there is what the
+-- definition looks at.
 use Rattle.regions.proofs.LookLaws.{row-hop-on, east-west-off, east-west-looks, mark-none, mark-some}
 use borrow.Author.Needs.{needs}
 use Rattle.regions.proofs.looks.east_west.Statement.{statement}

@@ -1,4 +1,5 @@
--- `looks::north_south` meets its contract: the hop is on the map, and what stands there is what the definition looks at.
+-- `looks::north_south` meets its contract: the hop is on the map, and what stands there is what the
+-- definition looks at.
 use Rattle.regions.proofs.LookLaws.{column-hop-on, north-south-off, north-south-looks, mark-none, mark-some}
 use borrow.Author.Needs.{needs}
 use Rattle.regions.proofs.looks.north_south.Statement.{statement}

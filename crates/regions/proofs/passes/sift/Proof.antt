@@ -1,5 +1,5 @@
--- `passes::sift` meets its contract. The invariant: the rows nearer the end than y are passed, and no other crossing has changed. The measure is
--- how far row fy still is.
+-- `passes::sift` meets its contract. The invariant: the rows nearer the end than y are passed, and
+-- no other crossing has changed. The measure is how far row fy still is.
 use Rattle.field.specs.Map.{at, gap}
 use Rattle.regions.proofs.WayLaws.{way-less}
 use Rattle.regions.proofs.WalkLaws.{AtRow, rows-start, rows-looked, rows-again, rows-end, row-from}

@@ -1,5 +1,5 @@
--- `passes::sift_row` meets its contract. The invariant: the columns nearer the end than x are passed, and no other crossing has changed. The
--- measure is how far column fx still is.
+-- `passes::sift_row` meets its contract. The invariant: the columns nearer the end than x are
+-- passed, and no other crossing has changed. The measure is how far column fx still is.
 use native.Mathlib.Omega.{arith}
 use Rattle.field.specs.Map.{at, gap}
 use Rattle.regions.proofs.WayLaws.{way-less}

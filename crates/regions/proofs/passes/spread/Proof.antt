@@ -1,5 +1,5 @@
--- `passes::spread` meets its contract. The invariant: the rows nearer the end than y are passed, and no other crossing has changed. The measure
--- is how far row fy still is.
+-- `passes::spread` meets its contract. The invariant: the rows nearer the end than y are passed,
+-- and no other crossing has changed. The measure is how far row fy still is.
 use Rattle.field.specs.Map.{gap}
 use Rattle.regions.specs.Passes.{free}
 use Rattle.regions.proofs.WayLaws.{way-less}

@@ -1,5 +1,5 @@
--- `passes::spread_row` meets its contract. The invariant: the columns nearer the end than x are passed, and no other crossing has changed. The
--- measure is how far column fx still is.
+-- `passes::spread_row` meets its contract. The invariant: the columns nearer the end than x are
+-- passed, and no other crossing has changed. The measure is how far column fx still is.
 use Rattle.field.specs.Map.{gap}
 use Rattle.regions.specs.Passes.{free}
 use Rattle.regions.proofs.WayLaws.{way-less}

@@ -1,2 +1,0 @@
--- What is told over a label sheet's marks.
-pub mod Answering

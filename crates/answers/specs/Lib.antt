@@ -1,2 +1,0 @@
--- What the questions over a label sheet are answered by.
-pub mod Promise

@@ -1,0 +1,98 @@
+//! What Rust sees at the border, a line each: the size and alignment of every struct, each field's
+//! name, offset and size; the limits; and every refusal in words. tests/border/layout.c prints the
+//! same of C; tests/border/run compares the two.
+use grainbodkin::{Map, Refusal, LONGEST_FILE, MARKERS, NO_DISTANCE, SIDE, STACK};
+use grainbodkin_sys::{
+    Assurance, Counted, Drove, Four, Homeward, Labelling, Marker, ReadMap, WroteMap,
+};
+use std::mem::{align_of, offset_of, size_of, size_of_val};
+
+/// A struct by its header's name, with a value to measure its fields by.
+macro_rules! layout {
+    ($name:literal, $type:ident { $($field:ident: $value:expr),+ }) => {{
+        println!("{} {} {}", $name, size_of::<$type>(), align_of::<$type>());
+        let all = $type { $($field: $value),+ };
+        $(println!(
+            "{}.{} {} {}",
+            $name,
+            stringify!($field),
+            offset_of!($type, $field),
+            size_of_val(&all.$field)
+        );)+
+    }};
+}
+
+fn main() {
+    layout!("marker", Marker { id: 0, x: 0, y: 0 });
+    layout!(
+        "counted",
+        Counted {
+            refusal: 0,
+            count: 0
+        }
+    );
+    layout!(
+        "labelling",
+        Labelling {
+            refusal: 0,
+            rocks: 0,
+            shut: 0,
+            groups: 0
+        }
+    );
+    layout!(
+        "four",
+        Four {
+            refusal: 0,
+            four: [0; 4]
+        }
+    );
+    layout!(
+        "assurance",
+        Assurance {
+            refusal: 0,
+            assured: false
+        }
+    );
+    layout!(
+        "homeward",
+        Homeward {
+            refusal: 0,
+            hops: 0,
+            x: 0,
+            y: 0,
+            a: 0,
+            b: 0
+        }
+    );
+    layout!(
+        "drove",
+        Drove {
+            refusal: 0,
+            length: 0
+        }
+    );
+    layout!(
+        "read_map",
+        ReadMap {
+            refusal: 0,
+            width: 0,
+            height: 0,
+            count: 0
+        }
+    );
+    layout!(
+        "wrote_map",
+        WroteMap {
+            refusal: 0,
+            bytes: 0
+        }
+    );
+    let largest = Map::new(SIDE, SIDE).expect("the largest map");
+    println!("side {SIDE}\nmarkers {MARKERS}\nno distance {NO_DISTANCE}");
+    println!("crossings {}\nroute {}", largest.crossings(), 2 * SIDE - 1);
+    println!("file {LONGEST_FILE}\nstack {STACK}");
+    for refusal in Refusal::ALL {
+        println!("{refusal}");
+    }
+}
