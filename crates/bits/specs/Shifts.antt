@@ -2,9 +2,9 @@
 use mathlib.Core.Path.{_≡_, refl, sym, ap, _∙_}
 use Prim.Native.Nat.{ℕ, zero, suc, _+_, _-_, _*_, _/_, _%_, _^_, _<_, _≤_}
 use native.Mathlib.Omega.{arith}
-use native.Mathlib.Nat.{mul-assoc}
+use native.Mathlib.Nat.{mul-assoc, mod-lt}
 use native.Mathlib.Decide.{decLt}
-use lib.Pow.{pow-add, shr-shr, shl-shr, field, mod-mod-pow}
+use lib.Pow.{pow-pos, pow-add, shr-shr, shl-shr, field, mod-mod-pow}
 use lib.Bits.{bitAnd, bitOr, shifted-even, and-mask}
 use Rattle.bits.specs.Bit.{bitAt}
 use Rattle.bits.specs.Laws.{bit-or, bit-past}
@@ -41,6 +41,15 @@ bit-shl-low n v k i l m =
 
 pub bit-shl-at : (n v k i : ℕ) → k ≤ i → i < n → bitAt (v * 2 ^ k % 2 ^ n) i ≡ bitAt v (i - k)
 bit-shl-at n v k i l m = let f : i ≡ k + (i - k) = omega arith in ap (bitAt (v * 2 ^ k % 2 ^ n)) f ∙ bit-shl n v k (i - k) (omega arith)
+
+-- A set bit of `v << k` was a set bit of v.
+pub shl-set : (n v k i : ℕ) → k < n → bitAt (v * 2 ^ k % 2 ^ n) i ≡ 1 → (k ≤ i) × (bitAt v (i - k) ≡ 1)
+shl-set n v k i l e = go (decLt i k) (decLt i n)
+  where
+    go : Dec (i < k) → Dec (i < n) → (k ≤ i) × (bitAt v (i - k) ≡ 1)
+    go (yes p) q = absurd (omega (arith, bit-shl-low n v k i l p))
+    go (no p) (yes q) = (omega arith, sym (bit-shl-at n v k i (omega arith) q) ∙ e)
+    go (no p) (no q) = absurd (omega (arith, bit-past (v * 2 ^ k % 2 ^ n) n i (mod-lt (v * 2 ^ k) (pow-pos n)) (omega arith)))
 
 -- `(v >> i) & 1`, and eight bits of a word.
 pub low-bit : (v i : ℕ) → bitAnd (v / 2 ^ i) 1 ≡ bitAt v i

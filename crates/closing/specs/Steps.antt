@@ -21,12 +21,30 @@ pub record Stepped (v n s u t mask r : ℕ) : Type 0 where
   pub more : v ≤ r
   pub fits : r < 2 ^ 64
 
--- Some steps lead from the word v to the word r.
+-- Bit i is reached from a set bit of v along set bits of p, each next to the one before.
+pub data Along (v p : ℕ) : ℕ → Type 0 where
+  here : {i : ℕ} → bitAt v i ≡ 1 → Along v p i
+  from-west : {i : ℕ} (k : ℕ) → i ≡ k + 1 → bitAt p i ≡ 1 → Along v p k → Along v p i
+  from-east : {i : ℕ} (k : ℕ) → k ≡ i + 1 → bitAt p i ≡ 1 → Along v p k → Along v p i
+
+-- r has the bits of v, and no other than those reached along p.
+pub record Spread (v p r : ℕ) : Type 0 where
+  pub kept : (i : ℕ) → bitAt v i ≡ 1 → bitAt r i ≡ 1
+  pub only : (i : ℕ) → bitAt r i ≡ 1 → Along v p i
+  pub more : v ≤ r
+  pub fits : r < 2 ^ 64
+
+-- p has bits only of the mask, with a set neighbour to the north or south.
+pub record Beside (n s mask p : ℕ) : Type 0 where
+  pub only : (i : ℕ) → bitAt p i ≡ 1 → (i < 64) × (bitAt mask i ≡ 1) × (1 ≤ bitAt n i + bitAt s i)
+
+-- Some steps and spreads lead from the word v to the word r.
 pub data Steps (n s u t mask v : ℕ) : ℕ → Type 0 where
   start : Steps n s u t mask v v
   next : {k r : ℕ} → Steps n s u t mask v k → Stepped k n s u t mask r → Steps n s u t mask v r
+  run : {k p r : ℕ} → Steps n s u t mask v k → Beside n s mask p → Spread k p r → Steps n s u t mask v r
 
--- r is the word v after steps until one changes nothing.
+-- r is the word v grown until a step changes nothing.
 pub record Filled (v n s u t mask r : ℕ) : Type 0 where
   pub steps : Steps n s u t mask v r
   pub still : Stepped r n s u t mask r

@@ -7,7 +7,7 @@
 ghost use mathlib.Core.Path.{_≡_};
 ghost use Prim.Native.Nat.{ℕ, _*_, _<_};
 ghost use lib.ListN.{length};
-ghost use Rattle.closing.specs.Steps.{Stepped, Filled};
+ghost use Rattle.closing.specs.Steps.{Stepped, Spread, Filled};
 ghost use Rattle.closing.specs.Growth.{Sweeping, GrowingRow, Growing, Sweeps};
 ghost use Rattle.closing.specs.Closes.{LookingRow, LookingAll, Looks, Closes};
 
@@ -35,14 +35,37 @@ fn step(v: u64, n: u64, s: u64, e: u64, w: u64, mask: u64) -> u64
     v | (((n & s) | (a & b) | ((n | s) & (a | b))) & mask)
 }
 
-// Steps until nothing changes.
+// Spreads the set bits of v along those of p, both ways: by 1, 2, 4 to 32 places, so that a run of any length takes six turns.
+fn spread(v: u64, p: u64) -> u64
+    ensures { λ r. ⌜ Spread v p r ⌝ }
+{
+    let mut g = v;
+    let mut east = p;
+    let mut west = p;
+    let mut d = 1u64;
+    while d < 64 {
+        g |= (east & (g << d)) | (west & (g >> d));
+        east &= east << d;
+        west &= west >> d;
+        d *= 2;
+    }
+    g
+}
+
+// Grows a word until a step changes nothing. Most words come to rest after a step or two. In a word that does not, runs are closed all along: a crossing
+// with a closed neighbour to the north or south closes as soon as the one east or west of it does.
 fn fill(v: u64, n: u64, s: u64, e: u64, w: u64, mask: u64) -> u64
     ensures { λ r. ⌜ Filled v n s e w mask r ⌝ }
 {
+    let p = (n | s) & mask;
     let mut u = v;
     let mut t = step(v, n, s, e, w, mask);
     while t != u {
-        u = t;
+        let a = step(t, n, s, e, w, mask);
+        if a == t {
+            return t;
+        }
+        u = spread(a, p);
         t = step(u, n, s, e, w, mask);
     }
     t

@@ -3,7 +3,7 @@
 //!     bench                               asserts that both sides agree on every row, then prints each row's times and their ratio
 //!     bench rows                          the rows: call, side, map
 //!     bench one CALL SIDE MAP WHICH COUNT makes one side's call so many times, for a count of instructions; WHICH is library, plain,
-//!                                         or, to enter and clear alone, block
+//!                                         or, to enter and clear alone, block, or, to label alone, stack
 //!     bench show MAP SIDE                 a map and its labels
 // The calls take what document 01 lends them.
 #![allow(clippy::too_many_arguments)]
@@ -17,7 +17,7 @@ mod plain;
 mod room;
 mod timing;
 
-use calls::{clear_again, enter_again, repeat, Answer, Call, CALLS};
+use calls::{clear_again, enter_again, repeat, stack_again, Answer, Call, CALLS};
 use input::Input;
 use layer::Layer;
 use library::Library;
@@ -39,7 +39,7 @@ fn main() -> ExitCode {
     };
     if done.is_none() {
         eprintln!(
-            "usage: bench [rows | one CALL SIDE MAP library|plain|block COUNT | show MAP SIDE]"
+            "usage: bench [rows | one CALL SIDE MAP library|plain|block|stack COUNT | show MAP SIDE]"
         );
         return ExitCode::FAILURE;
     }
@@ -87,6 +87,12 @@ fn times() -> Option<()> {
         let ratio = library / plain;
         println!("{name:10}{side:5}  {map:13}{refusal:8}{library:12.0}{plain:12.0}{ratio:8.2}");
     });
+    println!("labelling crossing by crossing, ns");
+    each_row(|_, call, side, map| {
+        if call == Call::Label {
+            println!("{side:5}  {map:13}{:12.0}", timing::stack(&input(map, side)));
+        }
+    });
     Some(())
 }
 
@@ -100,6 +106,11 @@ fn agree(name: &str, call: Call, input: &Input, map: &str) -> Answer {
     let (plain, plain_room) = after::<Plain>(call, input);
     assert_eq!(library, plain, "{name} {} {map}: answers", input.side);
     assert_eq!(library_room, plain_room, "{name} {} {map}", input.side);
+    if call == Call::Label {
+        let mut room = Room::new(input);
+        let stack = stack_again(input, &mut room, 2);
+        assert_eq!((library, &library_room), (stack, &room), "{name} {} {map}", input.side);
+    }
     if let Some(block) = block(call, input, 2) {
         assert_eq!(
             (library, library_room),
@@ -137,6 +148,7 @@ fn one(call: &str, side: &str, map: &str, which: &str, count: &str) -> Option<()
         "library" => repeat::<Library>(call, &input, &mut room, count),
         "plain" => repeat::<Plain>(call, &input, &mut room, count),
         "block" => block(call, &input, count)?.0,
+        "stack" if call == Call::Label => stack_again(&input, &mut room, count),
         _ => return None,
     };
     Some(())

@@ -15,7 +15,7 @@ use Rattle.bits.specs.Laws.{bit-le, xor-same, same-xor}
 use Rattle.rows.specs.Layout.{words, stride, spot, spotNorth, spotSouth, spotEast, spotWest, sides-w}
 use Rattle.rows.specs.Rows.{Lit, Place, Rows, MaskAt}
 use Rattle.rows.specs.Laws.{by-set}
-use Rattle.closing.specs.Steps.{aroundAt, Stepped, Steps, start, next, Filled}
+use Rattle.closing.specs.Steps.{aroundAt, Stepped, Along, here, from-west, from-east, Spread, Beside, Steps, start, next, run, Filled}
 use Rattle.closing.specs.Growth.{total, Grown, StillWord, Sweeps, Growing}
 use Rattle.closing.proofs.Laws.Totals.{total-set}
 
@@ -116,16 +116,44 @@ module _ {w h y j mask : ℕ} {s : List ℕ} (g : Growing w h y j s) (masks : Ma
           west-of : bitAt (st .w) i ≡ 1 → (a : ℕ) × (a + 1 ≡ 64 * j + i) × K a y
           west-of = at-west u (st .w) i r (st .west) (p .0)
 
+  -- A crossing with a closed neighbour in its row, and one to the north or south.
+  beside-closed : {p i a : ℕ} → Beside (getD s (spotNorth y j) 0) (getD s (spotSouth y j) 0) mask p → bitAt p i ≡ 1 → Near (64 * j + i) y a y → K a y
+      → (a ≡ 64 * j + i → ⊥) → (i < 64) × K (64 * j + i) y
+  beside-closed {p} {i} {a} b e near k apart = go (ℕ-discrete (bitAt (getD s (spotNorth y j) 0) i) 1)
+    where
+      q : (i < 64) × (bitAt mask i ≡ 1) × (1 ≤ bitAt (getD s (spotNorth y j) 0) i + bitAt (getD s (spotSouth y j) 0) i)
+      q = b .only i e
+
+      o : On w h (64 * j + i) y
+      o = record { in-x = masks .only i (q .1); in-y = g .in-y }
+
+      go : Dec (bitAt (getD s (spotNorth y j) 0) i ≡ 1) → (i < 64) × K (64 * j + i) y
+      go (yes m) = (q .0, between o near (north refl refl) (λ t. apart (t .0)) k (at-north i (q .0) m))
+      go (no m) =
+          let z = at-south i (q .0) (omega (arith, q .2, bit-le (getD s (spotNorth y j) 0) i, bit-le (getD s (spotSouth y j) 0) i)) in
+          (q .0, between o near (south refl (z .1)) (λ t. apart (t .0)) k (z .2))
+
+  in-along : {u p i : ℕ} → InWord u → Beside (getD s (spotNorth y j) 0) (getD s (spotSouth y j) 0) mask p → Along u p i → (i < 64) × K (64 * j + i) y
+  in-along {u} {p} {i} r b (here e) = r i e
+  in-along {u} {p} {i} r b (from-west k f e a) =
+      let n : Near (64 * j + i) y (64 * j + k) y = west (omega arith) refl in
+      beside-closed b e n (in-along r b a .1) (λ z. omega arith)
+  in-along {u} {p} {i} r b (from-east k f e a) =
+      let n : Near (64 * j + i) y (64 * j + k) y = east (omega arith) refl in
+      beside-closed b e n (in-along r b a .1) (λ z. omega arith)
+
   abbrev StepsTo : ℕ → Type 0
   StepsTo v = Steps (getD s (spotNorth y j) 0) (getD s (spotSouth y j) 0) (getD s (spotEast y j) 0) (getD s (spotWest y j) 0) mask (getD s (spot y j) 0) v
 
   in-steps : {v : ℕ} → StepsTo v → InWord v
   in-steps start = in-start
   in-steps (next p q) = in-step _ _ (in-steps p) q
+  in-steps (run p b q) = λ i e. in-along (in-steps p) b (q .only i e)
 
   kept-steps : {v : ℕ} → StepsTo v → (i : ℕ) → bitAt (getD s (spot y j) 0) i ≡ 1 → bitAt v i ≡ 1
   kept-steps start i e = e
   kept-steps (next p q) i e = q .kept i (kept-steps p i e)
+  kept-steps (run p b q) i e = q .kept i (kept-steps p i e)
 
   module _ {r : ℕ} (f : Filled (getD s (spot y j) 0) (getD s (spotNorth y j) 0) (getD s (spotSouth y j) 0) (getD s (spotEast y j) 0) (getD s (spotWest y j) 0) mask r) where
     abbrev I : ℕ

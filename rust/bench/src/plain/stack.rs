@@ -1,6 +1,7 @@
-//! Finding the closed crossings. Every crossing that becomes closed goes on a stack once, and is looked around once when it is taken off. A crossing
+//! Labelling crossing by crossing, on a stamped sheet: what rows of bits are measured against. Every crossing that becomes closed goes on a stack once, and is looked around once when it is taken off. A crossing
 //! that is open so far keeps, in its own byte, a note of the direction of the one closed neighbour that was looked around; a second one shuts it.
 use super::limits::*;
+use grainbodkin_sys::Labelling;
 
 const EAST: u8 = 3;
 const SOUTH: u8 = 4;
@@ -49,7 +50,7 @@ fn touch(
 }
 
 /// Shuts every crossing of the smallest set that is no rock, and leaves notes at others.
-pub fn close(sheet: &mut [u8], w: usize, h: usize) {
+fn close(sheet: &mut [u8], w: usize, h: usize) {
     let mut stack = [0; MOST_CROSSINGS];
     let mut k = gather(sheet, w, &mut stack);
     while k > 0 {
@@ -68,4 +69,41 @@ pub fn close(sheet: &mut [u8], w: usize, h: usize) {
             k = touch(sheet, w, x, y + 1, SOUTH, &mut stack, k);
         }
     }
+}
+
+/// Labels a sheet on which the rocks are stamped: the closed crossings are found, then the notes are taken off, and rocks, shut crossings and groups
+/// are counted. A group is counted at its one closed crossing with neither a closed west nor a closed south neighbour.
+pub fn label(sheet: &mut [u8], w: usize, h: usize) -> Labelling {
+    close(sheet, w, h);
+    settle(sheet, w, h)
+}
+
+fn settle(sheet: &mut [u8], w: usize, h: usize) -> Labelling {
+    let mut counts = Labelling {
+        refusal: SUCCESS,
+        rocks: 0,
+        shut: 0,
+        groups: 0,
+    };
+    for y in 0..h {
+        let (before, rest) = sheet.split_at_mut(y * w);
+        let south = before.rchunks_exact(w).next();
+        let row = &mut rest[..w];
+        for x in 0..w {
+            match row[x] {
+                OPEN => continue,
+                ROCK => counts.rocks += 1,
+                SHUT => counts.shut += 1,
+                _ => {
+                    row[x] = OPEN;
+                    continue;
+                }
+            }
+            let west_open = x == 0 || row[x - 1] == OPEN;
+            if west_open && south.is_none_or(|row| row[x] == OPEN) {
+                counts.groups += 1;
+            }
+        }
+    }
+    counts
 }
