@@ -53,11 +53,10 @@ fn spread(v: u64, p: u64) -> u64
 }
 
 // Grows a word until a step changes nothing. Most words come to rest after a step or two. In a word that does not, runs are closed all along: a crossing
-// with a closed neighbour to the north or south closes as soon as the one east or west of it does.
+// with a closed neighbour to the north or south closes as soon as the one east or west of it does. So no word takes more than a few turns.
 fn fill(v: u64, n: u64, s: u64, e: u64, w: u64, mask: u64) -> u64
     ensures { λ r. ⌜ Filled v n s e w mask r ⌝ }
 {
-    let p = (n | s) & mask;
     let mut u = v;
     let mut t = step(v, n, s, e, w, mask);
     while t != u {
@@ -65,7 +64,7 @@ fn fill(v: u64, n: u64, s: u64, e: u64, w: u64, mask: u64) -> u64
         if a == t {
             return t;
         }
-        u = spread(a, p);
+        u = spread(a, (n | s) & mask & !a);
         t = step(u, n, s, e, w, mask);
     }
     t

@@ -6,7 +6,7 @@ use native.Mathlib.Decide.{decLt, ℕ-discrete}
 use lib.Bits.{bitAnd, bitOr, or-lt, and-le-r}
 use lib.Pow.{shr-le}
 use Rattle.bits.specs.Bit.{bitAt}
-use Rattle.bits.specs.Laws.{bit-le, bit-and, bit-or, bit-past, le-or}
+use Rattle.bits.specs.Laws.{bit-le, bit-and, bit-or, bit-past, le-or, without}
 use Rattle.bits.specs.Shifts.{bit-shr, shl-set}
 use Rattle.closing.specs.Steps.{Along, here, from-west, from-east, Spread, Beside}
 
@@ -78,11 +78,16 @@ spread-next {v} {p} {g} {d} {e} {w} l je jw r =
         let s : bitAt g (d + i) ≡ 1 = sym (bit-shr g d i) ∙ omega (arith, bit-and w (g / 2 ^ d) i, bit-le (g / 2 ^ d) i) in
         jw .jump i (d + i) (omega (arith, bit-and w (g / 2 ^ d) i, bit-le w i)) (omega arith) (r .only (d + i) s)
 
--- `(n | s) & mask`.
-pub beside : (n s mask : ℕ) → mask < 2 ^ 64 → Beside n s mask (bitAnd (bitOr n s) mask)
-beside n s mask f =
+-- `(n | s) & mask & !v`: the bits that v has already need not be reached.
+abbrev pub besideOf : ℕ → ℕ → ℕ → ℕ → ℕ
+besideOf n s mask v = without 64 (bitAnd (bitOr n s) mask) v
+
+pub beside : (n s mask v : ℕ) → mask < 2 ^ 64 → Beside n s mask (besideOf n s mask v)
+beside n s mask v f =
     record {
       only = λ i e.
+          let b : bitAt (bitAnd (bitOr n s) mask) i ≡ 1 =
+          omega (arith, bit-and (bitAnd (bitOr n s) mask) ((2 ^ 64 - 1) - v) i, bit-le (bitAnd (bitOr n s) mask) i) in
           let m : bitAt mask i ≡ 1 = omega (arith, bit-and (bitOr n s) mask i, bit-le mask i) in
           (inside i m (decLt i 64), m, omega (arith, bit-and (bitOr n s) mask i, bit-or n s i));
     }

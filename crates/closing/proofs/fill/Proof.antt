@@ -9,10 +9,10 @@ use Rattle.closing.proofs.fill.Statement.{statement}
 use Rattle.closing.proofs.fill.Tie as tie
 
 abbrev Inv-loop : tie.InvT-loop
-Inv-loop v n s e w mask p u₀ t₀ u t = Steps n s e w mask v u × Stepped u n s e w mask t × (v ≤ u)
+Inv-loop v n s e w mask u₀ t₀ u t = Steps n s e w mask v u × Stepped u n s e w mask t × (v ≤ u)
 
 abbrev μ-loop : tie.MeasureT-loop
-μ-loop v n s e w mask p u₀ t₀ u t = 2 ^ 64 - u
+μ-loop v n s e w mask u₀ t₀ u t = 2 ^ 64 - u
 
 step-requires : tie.Need-step-requires Inv-loop μ-loop
 step-requires c κs = search needs
@@ -46,7 +46,7 @@ loop-again c =
     let g = c .before .before .before .before .before .before .before .args in
     let a = c .before .before .before .step2 .ensures in
     let r = c .before .spread .ensures in
-    (run (next (next (i .0) (i .1)) a) (beside (g .n) (g .s) (g .mask) (omega arith)) r, c .step3 .ensures, omega (arith, i .1 .more, a .more, r .more))
+    (run (next (next (i .0) (i .1)) a) (beside (g .n) (g .s) (g .mask) _ (omega arith)) r, c .step3 .ensures, omega (arith, i .1 .more, a .more, r .more))
 
 returns-2 : tie.Need-returns-2 Inv-loop μ-loop
 returns-2 c =

@@ -47,7 +47,7 @@ fn fill(row: u64, north: u64, south: u64, mask: u64) -> u64 {
         if again == next {
             break;
         }
-        last = spread(again, (north | south) & mask);
+        last = spread(again, (north | south) & mask & !again);
         next = step(last, north, south, mask);
     }
     next
