@@ -1,5 +1,9 @@
 // Labelling a sheet on which the rocks are stamped, by rows of bits: the rocks are read into bits, the closed crossings' bits are set, the labels are
 // written, and the numbers come from counting bits.
+use field::SIDE;
+ghost use mathlib.Core.Path.{_≡_};
+ghost use Prim.Native.Nat.{_≤_};
+ghost use Rattle.field.specs.Limits.{side-number};
 ghost use Rattle.labels.specs.Promise.{Stamped, Labels};
 ghost use Rattle.labels.specs.Counting.{CountingRow, CountedRow, Counting, Counted};
 
@@ -66,9 +70,20 @@ fn count<'a>(rock: &'a [u64], c: &'a [u64], w: usize, h: usize) -> Labelled
     }
 }
 
-// Labels a sheet on which the rocks are stamped as 1, all else 0: then it holds 0 where a crossing is open, 1 at a rock, 2 where one is shut.
-// Hands back the numbers of rocks' crossings, shut crossings and groups.
-pub fn label(s: &mut [u8], w: usize, h: usize) -> Labelled
+// The width, which is no more than the side. That is a fact already; said in code, the compiler knows it too, and where a row is one word it leaves out
+// the loops over a row's words.
+fn within(w: usize) -> usize
+    requires { ⌜ w ≤ side-number ⌝ }
+    ensures { λ r. ⌜ r ≡ w ⌝ }
+{
+    if w < SIDE {
+        return w;
+    }
+    SIDE
+}
+
+// Labels by rows of bits.
+fn label_rows(s: &mut [u8], w: usize, h: usize) -> Labelled
     requires { ⌜ Stamped w h (now s) ⌝ }
     ensures { λ r. ⌜ Labels w h (now (s .entry)) (now (s .exit)) r ⌝ }
 {
@@ -78,4 +93,13 @@ pub fn label(s: &mut [u8], w: usize, h: usize) -> Labelled
     closing::close(&mut c, w, h);
     rows::put(s, w, h, &rock, &c);
     count(&rock, &c, w, h)
+}
+
+// Labels a sheet on which the rocks are stamped as 1, all else 0: then it holds 0 where a crossing is open, 1 at a rock, 2 where one is shut.
+// Hands back the numbers of rocks' crossings, shut crossings and groups.
+pub fn label(s: &mut [u8], w: usize, h: usize) -> Labelled
+    requires { ⌜ Stamped w h (now s) ⌝ }
+    ensures { λ r. ⌜ Labels w h (now (s .entry)) (now (s .exit)) r ⌝ }
+{
+    label_rows(s, within(w), h)
 }

@@ -1,69 +1,22 @@
--- `labels::label` meets its contract.
-use mathlib.Core.Path.{_≡_, refl, sym, ap, _∙_}
-use Prim.Native.Nat.{ℕ, _+_, _-_, _*_, _<_, _≤_}
+-- `labels::label` meets its contract. The width that it hands on is the width.
+use mathlib.Core.Path.{_≡_}
 use native.Mathlib.Omega.{arith}
-use lib.ListN.{length, getD}
-use Rattle.rows.specs.Layout.{slots, sides-h}
-use Rattle.rows.specs.Laws.{zeros-at}
-use Rattle.labels.proofs.Laws.Labels.{labelled, putting}
+use Rattle.field.specs.Limits.{side-is}
 use borrow.Author.Needs.{needs}
 use Rattle.labels.proofs.label.Statement.{statement}
 use Rattle.labels.proofs.label.Tie as tie
 
-slice-aggregate-read : tie.Need-slice-aggregate-read
-slice-aggregate-read c = search needs
+within-requires : tie.Need-within-requires
+within-requires c κs = omega (arith, side-is, c .before .before .pre .sides .most-w)
 
-read-requires : tie.Need-read-requires
-read-requires c κs =
-    let p = c .before .before .before .pre in
-    record { stamped = p; long = omega (arith, sides-h (p .sides)); blank = zeros-at slots }
-
-slice-aggregate-close : tie.Need-slice-aggregate-close
-slice-aggregate-close c = search needs
-
-close-requires : tie.Need-close-requires
-close-requires c κs = search needs
-
-slice-aggregate-put : tie.Need-slice-aggregate-put
-slice-aggregate-put c = search needs
-
-slice-aggregate-put-2 : tie.Need-slice-aggregate-put-2
-slice-aggregate-put-2 c = search needs
-
-put-requires : tie.Need-put-requires
-put-requires c κs =
-    let p = c .before .before .before .before .before .before .before .before .before .before .before .pre in
-    putting p (c .before .before .before .before .before .before .before .read .ensures) (c .before .before .before .before .close .ensures)
-
-slice-aggregate-count : tie.Need-slice-aggregate-count
-slice-aggregate-count c = search needs
-
-slice-aggregate-count-2 : tie.Need-slice-aggregate-count-2
-slice-aggregate-count-2 c = search needs
-
-count-requires : tie.Need-count-requires
-count-requires c κs =
-    record { sides = c .before .before .before .before .before .before .before .before .before .before .before .before .before .before .before .before .pre .sides; long-rock = c .before .before .before .before .before .before .before .before .before .before .before .before .read .ensures .rows .long; long-c = c .before .before .before .before .before .before .before .before .before .close .ensures .rows .long }
+label-rows-requires : tie.Need-label-rows-requires
+label-rows-requires c κs = rw (c .within .ensures) (c .before .before .before .pre)
 
 same-length : tie.Need-same-length
 same-length c = search needs
 
 returns : tie.Need-returns
-returns c = labelled (c .before .before .before .before .before .before .before .before .before .before .before .before .before .before .before .before .before .pre) (c .before .before .before .before .before .before .before .before .before .before .before .before .before .read .ensures) (c .before .before .before .before .before .before .before .before .before .before .close .ensures) (c .before .before .before .before .before .put .ensures) (c .count .ensures)
+returns c = rw (c .before .before .before .within .ensures) at (c .before .before .label-rows .ensures)
 
 pub label-spec : {M : Type 1} → statement M
-label-spec =
-    tie.close
-    (tie.spec
-    slice-aggregate-read
-    read-requires
-    slice-aggregate-close
-    close-requires
-    slice-aggregate-put
-    slice-aggregate-put-2
-    put-requires
-    slice-aggregate-count
-    slice-aggregate-count-2
-    count-requires
-    same-length
-    returns)
+label-spec = tie.close (tie.spec within-requires label-rows-requires same-length returns)
