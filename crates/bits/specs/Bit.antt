@@ -1,4 +1,5 @@
--- The bits of a word, and what it means for a word to be made of others' bits. Bits are the numbers 0 and 1, and each meaning is linear in them.
+-- The bits of a word, and what it means for a word to be made of others' bits. Bits are the numbers
+-- 0 and 1, and each meaning is linear in them.
 use mathlib.Core.Path.{_≡_}
 use Prim.Native.Nat.{ℕ, _+_, _-_, _/_, _%_, _^_, _<_, _≤_}
 
@@ -17,8 +18,9 @@ pub record Either (a b m : ℕ) : Type 0 where
   pub right : b ≤ m
   pub either : m ≤ a + b
 
--- A row goes on from word to word of n bits, to the east from low to high. r has at bit i what stands one to the east of bit i of v, where u is
--- the next word to the east; and the same to the west.
+-- A row goes on from word to word of n bits, to the east from low to high. r has at bit i what
+-- stands one to the east of bit i of v, where u is the next word to the east; and the same to the
+-- west.
 pub record EastOf (n v u r : ℕ) : Type 0 where
   pub inner : (i : ℕ) → i + 1 < n → bitAt r i ≡ bitAt v (i + 1)
   pub carry : bitAt r (n - 1) ≡ bitAt u 0

@@ -1,4 +1,5 @@
--- What and, or, xor and not do to the bits, and that words with the same bits are equal. Each law is linear in the bits, so that omega reads it.
+-- What and, or, xor and not do to the bits, and that words with the same bits are equal. Each law
+-- is linear in the bits, so that omega reads it.
 use mathlib.Core.Path.{_≡_, refl, sym, ap, _∙_}
 use Prim.Native.Nat.{ℕ, zero, suc, _+_, _-_, _/_, _%_, _^_, _<_, _≤_, min, max}
 use native.Mathlib.Omega.{arith}

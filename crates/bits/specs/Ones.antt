@@ -62,7 +62,8 @@ sum-blocks (suc n) f =
     let e : 64 * n + 64 ≡ 64 * suc n = omega arith in
     ap (λ (v : ℕ). v + sumTo 64 (λ k. f (64 * n + k))) (sum-blocks n f) ∙ sym (sum-append (64 * n) 64 f) ∙ ap (λ (k : ℕ). sumTo k f) e
 
--- A row of w bits in words of 64: the sum of the words' numbers of set bits is the sum of the row's bits, where no bit past the row is set.
+-- A row of w bits in words of 64: the sum of the words' numbers of set bits is the sum of the row's
+-- bits, where no bit past the row is set.
 pub ones-row : (w : ℕ) (g : ℕ → ℕ) → ((j : ℕ) → g j < 2 ^ 64) → ((j k : ℕ) → j < (w + 63) / 64 → k < 64 → w ≤ 64 * j + k → bitAt (g j) k ≡ 0)
     → sumTo ((w + 63) / 64) (λ j. ones (g j)) ≡ sumTo w (λ x. bitAt (g (x / 64)) (x % 64))
 ones-row w g f z =

@@ -14,7 +14,8 @@ pub record Closes (w h : ℕ) (s t : List ℕ) : Type 0 where
   pub complete : (x y : ℕ) → Closed (Lit w h s) w h x y → Lit w h t x y
   pub size : length t ≡ length s
 
--- The mark of row y stands in f at y + 1. A row that is not marked is one that a step does not change.
+-- The mark of row y stands in f at y + 1. A row that is not marked is one that a step does not
+-- change.
 pub record Marks (w h : ℕ) (c f : List ℕ) : Type 0 where
   pub long : h + 2 ≤ length f
   pub calm : (y : ℕ) → y < h → getD f (y + 1) 0 ≡ 0 → (j : ℕ) → 64 * j < w → StillWord w c y j

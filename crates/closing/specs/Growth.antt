@@ -29,7 +29,8 @@ pub record StillWord (w : ℕ) (c : List ℕ) (y j : ℕ) : Type 0 where
   pub still : Stepped (getD c (spot y j) 0) (getD c (spotNorth y j) 0) (getD c (spotSouth y j) 0) (getD c (spotEast y j) 0) (getD c (spotWest y j) 0) mask
       (getD c (spot y j) 0)
 
--- s is grown to t, where the words of D were grown (row and word), and no other; r is 0 exactly if nothing has changed, and then each of them is still.
+-- s is grown to t, where the words of D were grown (row and word), and no other; r is 0 exactly if
+-- nothing has changed, and then each of them is still.
 pub record Sweeps (D : ℕ → ℕ → Type 0) (w h : ℕ) (s t : List ℕ) (r : ℕ) : Type 0 where
   pub grown : Grown w h s t
   pub same : r ≡ 0 → t ≡ s

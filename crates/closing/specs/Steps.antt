@@ -4,12 +4,13 @@ use mathlib.Core.Logic.{_⊎_}
 use Prim.Native.Nat.{ℕ, _+_, _^_, _<_, _≤_}
 use Rattle.bits.specs.Bit.{bitAt, EastOf, WestOf}
 
--- How many of the four neighbours of bit i are set: e and w have the east and the west neighbours, n and s the north and the south ones.
+-- How many of the four neighbours of bit i are set: e and w have the east and the west neighbours,
+-- n and s the north and the south ones.
 abbrev pub aroundAt : ℕ → ℕ → ℕ → ℕ → ℕ → ℕ
 aroundAt e w n s i = bitAt e i + bitAt w i + bitAt n i + bitAt s i
 
--- r is the word v after one step between the words n, s, u to the east and t to the west: a bit is set exactly if it was, or if the mask has it and
--- two or more of its neighbours are set.
+-- r is the word v after one step between the words n, s, u to the east and t to the west: a bit is
+-- set exactly if it was, or if the mask has it and two or more of its neighbours are set.
 pub record Stepped (v n s u t mask r : ℕ) : Type 0 where
   pub e : ℕ
   pub w : ℕ

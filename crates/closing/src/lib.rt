@@ -1,9 +1,12 @@
-// Closing by whole rows: in a map of bits in which the rocks are set, the bit of every closed crossing is set. A crossing closes if two of its
-// four neighbours are closed, for the 64 crossings of a word at once. A word grows until a step changes nothing of it, a row is looked at again only
-// while a row beside it changes, and the rows are swept to the north and to the south until a sweep changes nothing.
+// Closing by whole rows: in a map of bits in which the rocks are set, the bit of every closed
+// crossing is set. A crossing closes if two of its four neighbours are closed, for the 64 crossings
+// of a word at once. A word grows until a step changes nothing of it, a row is looked at again only
+// while a row beside it changes, and the rows are swept to the north and to the south until a sweep
+// changes nothing.
 //
-// The number of looks: a sweep looks at a row only if that row changed or a row beside it did, and each change closes a crossing at least, so there are
-// at most three looks to a crossing that closes, and one to a row besides.
+// The number of looks: a sweep looks at a row only if that row changed or a row beside it did, and
+// each change closes a crossing at least, so there are at most three looks to a crossing that
+// closes, and one to a row besides.
 ghost use mathlib.Core.Path.{_≡_};
 ghost use Prim.Native.Nat.{ℕ, _*_, _<_};
 ghost use lib.ListN.{length};
@@ -25,8 +28,9 @@ const WEST: usize = rows::FIRST - 1;
 // A mark for each row, and for a row on either side.
 const MARKS: usize = field::SIDE + 2;
 
-// One step of growing the word v between the words on its four sides: a bit is set if it was, or if the mask has it and two or more of its four
-// neighbours are set. The last bit's east neighbour is the first of the word e, the first bit's west neighbour the last of the word w.
+// One step of growing the word v between the words on its four sides: a bit is set if it was, or if
+// the mask has it and two or more of its four neighbours are set. The last bit's east neighbour is
+// the first of the word e, the first bit's west neighbour the last of the word w.
 fn step(v: u64, n: u64, s: u64, e: u64, w: u64, mask: u64) -> u64
     ensures { λ r. ⌜ Stepped v n s e w mask r ⌝ }
 {
@@ -35,7 +39,8 @@ fn step(v: u64, n: u64, s: u64, e: u64, w: u64, mask: u64) -> u64
     v | (((n & s) | (a & b) | ((n | s) & (a | b))) & mask)
 }
 
-// Spreads the set bits of v along those of p, both ways: by 1, 2, 4 to 32 places, so that a run of any length takes six turns.
+// Spreads the set bits of v along those of p, both ways: by 1, 2, 4 to 32 places, so that a run of
+// any length takes six turns.
 fn spread(v: u64, p: u64) -> u64
     ensures { λ r. ⌜ Spread v p r ⌝ }
 {
@@ -52,8 +57,9 @@ fn spread(v: u64, p: u64) -> u64
     g
 }
 
-// Grows a word until a step changes nothing. Most words come to rest after a step or two. In a word that does not, runs are closed all along: a crossing
-// with a closed neighbour to the north or south closes as soon as the one east or west of it does. So no word takes more than a few turns.
+// Grows a word until a step changes nothing. Most words come to rest after a step or two. In a word
+// that does not, runs are closed all along: a crossing with a closed neighbour to the north or
+// south closes as soon as the one east or west of it does. So no word takes more than a few turns.
 fn fill(v: u64, n: u64, s: u64, e: u64, w: u64, mask: u64) -> u64
     ensures { λ r. ⌜ Filled v n s e w mask r ⌝ }
 {
@@ -117,7 +123,8 @@ fn grow_west(c: &mut [u64], w: usize, h: usize, y: usize) -> u64
     d
 }
 
-// Grows row y: to the east, and where that changes something, back to the west. A row of one word needs no way back.
+// Grows row y: to the east, and where that changes something, back to the west. A row of one word
+// needs no way back.
 fn grow_row(c: &mut [u64], w: usize, h: usize, y: usize) -> u64
     requires { ⌜ GrowingRow w h y (now c) ⌝ }
     ensures { λ r. ⌜ Sweeps (λ (b a : ℕ). (b ≡ y) × (64 * a < w)) w h (now (c .entry)) (now (c .exit)) r ⌝ }
@@ -130,7 +137,8 @@ fn grow_row(c: &mut [u64], w: usize, h: usize, y: usize) -> u64
     d | e
 }
 
-// Grows row y if it is marked in f. A row that does not change is marked no more; one that does marks the rows on either side.
+// Grows row y if it is marked in f. A row that does not change is marked no more; one that does
+// marks the rows on either side.
 fn look_row(c: &mut [u64], f: &mut [u8], w: usize, h: usize, y: usize) -> u64
     requires { ⌜ LookingRow w h y (now c) (now f) ⌝ }
     ensures { λ r. ⌜ Looks (λ (b a : ℕ). (b ≡ y) × (64 * a < w)) w h (now (c .entry)) (now (f .entry)) (now (c .exit)) (now (f .exit)) r ⌝ }
@@ -190,7 +198,8 @@ fn settle(c: &mut [u64], f: &mut [u8], w: usize, h: usize)
     }
 }
 
-// Sets the bit of every closed crossing, where those of the rocks are set. Every row is marked at first.
+// Sets the bit of every closed crossing, where those of the rocks are set. Every row is marked at
+// first.
 pub fn close(c: &mut [u64], w: usize, h: usize)
     requires { ⌜ Sweeping w h (now c) ⌝ }
     ensures { λ r. ⌜ Closes w h (now (c .entry)) (now (c .exit)) ⌝ }

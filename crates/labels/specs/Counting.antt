@@ -13,7 +13,8 @@ use Rattle.rows.specs.Layout.{words, stride, wordsOf, spot, spotSouth, spotWest
 use Rattle.rows.specs.Rows.{wordAt, Long}
 use Rattle.labels.specs.declared.Labelled.{Labelled}
 
--- The bits of word j of row y that are closed without a rock; and those closed with neither a closed west nor a closed south neighbour.
+-- The bits of word j of row y that are closed without a rock; and those closed with neither a
+-- closed west nor a closed south neighbour.
 abbrev pub shutAt : List ℕ → List ℕ → ℕ → ℕ → ℕ
 shutAt rock c y j = without 64 (wordAt c y j) (wordAt rock y j)
 

@@ -1,4 +1,5 @@
--- What the labelling promises, and that this is one outcome; then, for the functions within, what counting promises.
+-- What the labelling promises, and that this is one outcome; then, for the functions within, what
+-- counting promises.
 pub mod Promise
 pub mod Outcome
 pub mod Counting

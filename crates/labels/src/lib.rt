@@ -1,5 +1,6 @@
-// Labelling a sheet on which the rocks are stamped, by rows of bits: the rocks are read into bits, the closed crossings' bits are set, the labels are
-// written, and the numbers come from counting bits.
+// Labelling a sheet on which the rocks are stamped, by rows of bits: the rocks are read into bits,
+// the closed crossings' bits are set, the labels are written, and the numbers come from counting
+// bits.
 use field::SIDE;
 ghost use mathlib.Core.Path.{_≡_};
 ghost use Prim.Native.Nat.{_≤_};
@@ -19,8 +20,9 @@ pub struct Labelled {
     pub groups: usize,
 }
 
-// The three numbers of row y, word by word: the rocks, the closed ones without a rock, and the corners. A group is counted at its corner, the one
-// closed crossing of it with neither a closed west nor a closed south neighbour.
+// The three numbers of row y, word by word: the rocks, the closed ones without a rock, and the
+// corners. A group is counted at its corner, the one closed crossing of it with neither a closed
+// west nor a closed south neighbour.
 fn count_row<'a>(rock: &'a [u64], c: &'a [u64], w: usize, y: usize) -> Labelled
     requires { ⌜ CountingRow w y (now rock) (now c) ⌝ }
     ensures { λ r. ⌜ CountedRow w y (now (rock .entry)) (now (c .entry)) r ⌝ }
@@ -70,8 +72,8 @@ fn count<'a>(rock: &'a [u64], c: &'a [u64], w: usize, h: usize) -> Labelled
     }
 }
 
-// The width, which is no more than the side. That is a fact already; said in code, the compiler knows it too, and where a row is one word it leaves out
-// the loops over a row's words.
+// The width, which is no more than the side. That is a fact already; said in code, the compiler
+// knows it too, and where a row is one word it leaves out the loops over a row's words.
 fn within(w: usize) -> usize
     requires { ⌜ w ≤ side-number ⌝ }
     ensures { λ r. ⌜ r ≡ w ⌝ }
@@ -95,8 +97,9 @@ fn label_rows(s: &mut [u8], w: usize, h: usize) -> Labelled
     count(&rock, &c, w, h)
 }
 
-// Labels a sheet on which the rocks are stamped as 1, all else 0: then it holds 0 where a crossing is open, 1 at a rock, 2 where one is shut.
-// Hands back the numbers of rocks' crossings, shut crossings and groups.
+// Labels a sheet on which the rocks are stamped as 1, all else 0: then it holds 0 where a crossing
+// is open, 1 at a rock, 2 where one is shut. Hands back the numbers of rocks' crossings, shut
+// crossings and groups.
 pub fn label(s: &mut [u8], w: usize, h: usize) -> Labelled
     requires { ⌜ Stamped w h (now s) ⌝ }
     ensures { λ r. ⌜ Labels w h (now (s .entry)) (now (s .exit)) r ⌝ }

@@ -1,4 +1,5 @@
--- What the proofs of several crates use: a word stored among others, words of zeros, and one row or word more.
+-- What the proofs of several crates use: a word stored among others, words of zeros, and one row or
+-- word more.
 use mathlib.Core.Path.{_≡_, refl}
 use mathlib.Core.List.{List}
 use mathlib.Core.Logic.{_⊎_, inl, inr}
@@ -22,7 +23,8 @@ zeros-at zero i = refl
 zeros-at (suc n) zero = refl
 zeros-at (suc n) (suc i) = zeros-at n i
 
--- Of those up to y: the last, or one before it. Of those from y - 1 on: the first, or one behind it.
+-- Of those up to y: the last, or one before it. Of those from y - 1 on: the first, or one behind
+-- it.
 pub last-or-before : {P Q : Type 0} (y j : ℕ) → j < y + 1 → (j < y → P) → (j ≡ y → Q) → P ⊎ Q
 last-or-before {P} {Q} y j l f g = go (ℕ-discrete j y)
   where

@@ -1,4 +1,5 @@
--- The numbers of the layout. They follow from the limits: a change of the side changes `words` here and WORDS in the code, and nothing else.
+-- The numbers of the layout. They follow from the limits: a change of the side changes `words` here
+-- and WORDS in the code, and nothing else.
 use Prim.Native.Nat.{ℕ, _+_, _*_, _/_, _≤_}
 use native.Mathlib.Omega.{arith}
 use Rattle.field.specs.Map.{Sides}

@@ -30,7 +30,8 @@ pub record Place (w h i k : ℕ) : Type 0 where
 abbrev pub Long : ℕ → List ℕ → Type 0
 Long h c = (h + 2) * stride ≤ length c
 
--- Only crossings have set bits: the words between the rows, the rows on either side and the bits past the width have none.
+-- Only crossings have set bits: the words between the rows, the rows on either side and the bits
+-- past the width have none.
 pub record Rows (w h : ℕ) (c : List ℕ) : Type 0 where
   pub long : Long h c
   pub words : (i : ℕ) → getD c i 0 < 2 ^ 64

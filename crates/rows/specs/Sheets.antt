@@ -42,7 +42,8 @@ pub record Drawn (w h : ℕ) (s c : List ℕ) : Type 0 where
   pub rows : Rows w h c
   pub drawn : (x y : ℕ) → On w h x y → bitIn c x y ≡ at s w x y
 
--- The label of (x, y), where rock has the rocks' bits and c those of the closed crossings: 1 for a rock, 2 where it is closed without one.
+-- The label of (x, y), where rock has the rocks' bits and c those of the closed crossings: 1 for a
+-- rock, 2 where it is closed without one.
 abbrev pub labelAt : List ℕ → List ℕ → ℕ → ℕ → ℕ
 labelAt rock c x y = byteOf (wordAt rock y (x / 64)) (without 64 (wordAt c y (x / 64)) (wordAt rock y (x / 64))) (x % 64)
 

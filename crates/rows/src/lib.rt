@@ -1,8 +1,11 @@
-// A map as rows of bits: where each crossing's bit stands among the words, a sheet of rocks read into them, and the labels written from them.
+// A map as rows of bits: where each crossing's bit stands among the words, a sheet of rocks read
+// into them, and the labels written from them.
 //
-// A row has WORDS words of 64 bits, and a word of zeros behind them: it is the east end of its row and the west end of the next. A row of zeros
-// stands south of the map and one north of it. So no edge needs a branch, and no bit runs over from one row into the next. The distance from row
-// to row is the same for every map, whatever its width: then every index is a sum of small multiples. How many words are in use goes by the width.
+// A row has WORDS words of 64 bits, and a word of zeros behind them: it is the east end of its row
+// and the west end of the next. A row of zeros stands south of the map and one north of it. So no
+// edge needs a branch, and no bit runs over from one row into the next. The distance from row to
+// row is the same for every map, whatever its width: then every index is a sum of small multiples.
+// How many words are in use goes by the width.
 ghost use Prim.Native.Nat.{ℕ, _+_, _*_, _<_, _≤_};
 ghost use mathlib.Core.Path.{_≡_};
 ghost use lib.ListN.{length};
@@ -66,7 +69,8 @@ pub fn read(s: &[u8], w: usize, h: usize, c: &mut [u64])
     }
 }
 
-// Writes the labels of word j of row y. The rocks stand on the sheet already, so a word with nothing shut is not written.
+// Writes the labels of word j of row y. The rocks stand on the sheet already, so a word with
+// nothing shut is not written.
 fn put_word<'a>(s: &mut [u8], w: usize, h: usize, y: usize, j: usize, rock: &'a [u64], c: &'a [u64])
     requires { ⌜ PuttingWord w h y j (now rock) (now c) (now s) ⌝ }
     ensures { λ r. ⌜ Wrote (λ (b a : ℕ). (b ≡ y) × (a ≡ j)) w h (now (rock .entry)) (now (c .entry)) (now (s .entry)) (now (s .exit)) ⌝ }
@@ -93,7 +97,8 @@ fn put_row<'a>(s: &mut [u8], w: usize, h: usize, y: usize, rock: &'a [u64], c: &
     }
 }
 
-// Writes the labels on a sheet on which the rocks are stamped: rock has the rocks' bits, c those of the closed crossings.
+// Writes the labels on a sheet on which the rocks are stamped: rock has the rocks' bits, c those of
+// the closed crossings.
 pub fn put<'a>(s: &mut [u8], w: usize, h: usize, rock: &'a [u64], c: &'a [u64])
     requires { ⌜ Putting w h (now rock) (now c) (now s) ⌝ }
     ensures { λ r. ⌜ Wrote (λ (b a : ℕ). (b < h) × (64 * a < w)) w h (now (rock .entry)) (now (c .entry)) (now (s .entry)) (now (s .exit)) ⌝ }

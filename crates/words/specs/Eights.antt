@@ -25,7 +25,8 @@ pub record LookedEight (i : ℕ) (s : List ℕ) (r : ℕ) : Type 0 where
   pub bits : (j : ℕ) → j < 8 → bitAt r j ≡ getD s (i + j) 0
   pub small : r < 256
 
--- What the machine computes where it gathers eight bytes into eight bits, and where it spreads them out.
+-- What the machine computes where it gathers eight bytes into eight bits, and where it spreads them
+-- out.
 unfoldable pub gathered : ℕ → ℕ
 gathered v =
     let a : ℕ = bitOr v (v / 2 ^ 7) in

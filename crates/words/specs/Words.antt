@@ -1,4 +1,5 @@
--- A part of a sheet and a word: bytes of 0 and 1 read as bits, labels written from the bits of two words, and the number of set bits.
+-- A part of a sheet and a word: bytes of 0 and 1 read as bits, labels written from the bits of two
+-- words, and the number of set bits.
 use mathlib.Core.Path.{_≡_}
 use mathlib.Core.List.{List}
 use Prim.Native.Nat.{ℕ, _+_, _*_, _^_, _<_, _≤_}

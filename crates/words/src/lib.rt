@@ -1,5 +1,6 @@
-// Words of 64 bits and the bytes of a sheet: a part of a sheet of 0 and 1 read into a word, labels written from words, eight bytes at a time
-// wherever eight are left; the low bits of a word, and how many bits of it are set.
+// Words of 64 bits and the bytes of a sheet: a part of a sheet of 0 and 1 read into a word, labels
+// written from words, eight bytes at a time wherever eight are left; the low bits of a word, and
+// how many bits of it are set.
 ghost use mathlib.Core.Path.{_≡_};
 ghost use Prim.Native.Nat.{_+_, _*_, _/_, _<_, _≤_};
 ghost use Rattle.bits.specs.Bit.{Mask};
@@ -36,7 +37,8 @@ fn look(s: &[u8], i: usize) -> u64
     wide(s[i])
 }
 
-// Eight bytes of 0 and 1 in a word, gathered into its low eight bits: the bytes fold onto each other in three steps.
+// Eight bytes of 0 and 1 in a word, gathered into its low eight bits: the bytes fold onto each
+// other in three steps.
 fn gather(v: u64) -> u64
     ensures { λ r. ⌜ r ≡ gathered v ⌝ }
 {
@@ -62,7 +64,8 @@ fn both(a: u64, b: u64) -> u64
     spread(a) + 2 * spread(b)
 }
 
-// Eight bytes of a sheet of 0 and 1 from number i on, as bits. A load of eight bytes as one word is what the machine makes of it.
+// Eight bytes of a sheet of 0 and 1 from number i on, as bits. A load of eight bytes as one word is
+// what the machine makes of it.
 fn eight(s: &[u8], i: usize) -> u64
     requires { ⌜ LookingEight i (now s) ⌝ }
     ensures { λ r. ⌜ LookedEight i (now (s .entry)) r ⌝ }

@@ -1,4 +1,5 @@
--- Spreading by 1, 2, 4 to 32 places: where all bits of a stretch of d are set in p, one jump of d goes along it.
+-- Spreading by 1, 2, 4 to 32 places: where all bits of a stretch of d are set in p, one jump of d
+-- goes along it.
 use mathlib.Core.Path.{_≡_, refl, sym, ap, _∙_}
 use Prim.Native.Nat.{ℕ, _+_, _-_, _*_, _/_, _%_, _^_, _<_, _≤_}
 use native.Mathlib.Omega.{arith}

@@ -1,4 +1,5 @@
--- Sweeping the rows of a map: growth adds up, and where a sweep changes nothing, what is set is the smallest set.
+-- Sweeping the rows of a map: growth adds up, and where a sweep changes nothing, what is set is the
+-- smallest set.
 use mathlib.Core.Path.{_≡_, refl, sym, ap, _∙_}
 use mathlib.Core.List.{List}
 use mathlib.Core.Logic.{_⊎_, inl, inr}

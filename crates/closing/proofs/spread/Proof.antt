@@ -1,4 +1,5 @@
--- `closing::spread` meets its contract. The loop's invariant: what is set is reached, and a jump of d places goes along a stretch of d.
+-- `closing::spread` meets its contract. The loop's invariant: what is set is reached, and a jump of
+-- d places goes along a stretch of d.
 use mathlib.Core.Path.{_≡_}
 use Prim.Native.Nat.{ℕ, _+_, _-_, _*_, _/_, _%_, _^_, _<_, _≤_}
 use native.Mathlib.Omega.{arith}

@@ -1,4 +1,5 @@
--- From the bits to the labels and their numbers: the rocks' bits, the closed crossings' bits, and the corners'.
+-- From the bits to the labels and their numbers: the rocks' bits, the closed crossings' bits, and
+-- the corners'.
 use mathlib.Core.Path.{_≡_, refl, sym, ap, ap₂, _∙_}
 use mathlib.Core.List.{List}
 use mathlib.Core.Logic.{_⊎_, inl, inr}

@@ -1,4 +1,5 @@
--- The labels written word by word: a word that is written has its labels, one with nothing shut has them already, and none is lost.
+-- The labels written word by word: a word that is written has its labels, one with nothing shut has
+-- them already, and none is lost.
 use mathlib.Core.Path.{_≡_, refl, sym, ap, _∙_}
 use mathlib.Core.List.{List}
 use mathlib.Core.Logic.{_⊎_, inl, inr}

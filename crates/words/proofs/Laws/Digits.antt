@@ -1,4 +1,5 @@
--- A number by its digits of m bits each, the lowest first: with digits of one bit its bits, with digits of eight its bytes.
+-- A number by its digits of m bits each, the lowest first: with digits of one bit its bits, with
+-- digits of eight its bytes.
 use mathlib.Core.Path.{_≡_, refl, sym, ap, _∙_}
 use Prim.Native.Nat.{ℕ, zero, suc, _+_, _*_, _/_, _%_, _^_, _<_, _≤_}
 use native.Mathlib.Omega.{arith}

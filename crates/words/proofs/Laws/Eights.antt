@@ -1,4 +1,5 @@
--- Eight bytes at a time. What the two tricks compute is tested on all 256 values of eight bits; the rest goes by digits.
+-- Eight bytes at a time. What the two tricks compute is tested on all 256 values of eight bits; the
+-- rest goes by digits.
 use mathlib.Core.Path.{_≡_, refl, sym, ap, ap₂, _∙_}
 use mathlib.Core.Bool.{true}
 use mathlib.Core.List.{List}

@@ -1,4 +1,5 @@
--- A word read from the bytes of a sheet, and the bytes written from two words: one byte more, and eight bytes more.
+-- A word read from the bytes of a sheet, and the bytes written from two words: one byte more, and
+-- eight bytes more.
 use mathlib.Core.Path.{_≡_, refl, sym, ap, _∙_}
 use mathlib.Core.List.{List}
 use Prim.Native.Nat.{ℕ, zero, suc, _+_, _-_, _*_, _/_, _%_, _^_, _<_, _≤_}
