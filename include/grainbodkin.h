@@ -47,7 +47,7 @@ extern "C" {
 #define BODKIN_FILE (9 + BODKIN_SIDE * ((BODKIN_SIDE + 7) / 8))
 
 /* The most bytes of stack that a call is held to below its caller. */
-#define BODKIN_STACK 9216
+#define BODKIN_STACK 7168
 
 /* A label sheet's bytes. */
 #define BODKIN_OPEN 0

@@ -1,9 +1,9 @@
--- What the steps of closing come to, in the order of the argument: the stack (Stacks); what stays
--- true while it is drained (Working), at one touch (Touching) and around a crossing (Looking); from
--- the rocks (Gathering) to the smallest set (Draining).
-pub mod Stacks
-pub mod Working
-pub mod Touching
-pub mod Looking
-pub mod Gathering
-pub mod Draining
+-- In the order of the argument: what a step computes (Steps), runs of any length (Spreading), the
+-- sum of the words (Totals), a word grown (Growing), growth added up and brought to an end
+-- (Sweeping), and the rows that need no look (Marks).
+pub mod Steps
+pub mod Spreading
+pub mod Totals
+pub mod Growing
+pub mod Sweeping
+pub mod Marks

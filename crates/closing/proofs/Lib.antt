@@ -1,2 +1,2 @@
--- The laws behind the functions' proofs, in plain mathematics of sheets and stacks.
+-- The laws behind the functions' proofs, in plain mathematics of words and maps.
 pub mod Laws

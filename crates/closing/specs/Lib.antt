@@ -1,3 +1,5 @@
--- What closing promises; then, for the functions within, what gathering and draining promise.
-pub mod Promise
-pub mod Gathering
+-- What closing promises: the closed crossings' bits (Closes); for the functions within, a word's
+-- steps (Steps), and growth (Growth).
+pub mod Steps
+pub mod Growth
+pub mod Closes

@@ -1,2 +1,2 @@
--- The laws behind the functions' proofs, in plain mathematics of sheets and counts.
+-- The laws behind the functions' proofs, in plain mathematics of bits and crossings.
 pub mod Laws

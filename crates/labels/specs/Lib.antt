@@ -1,5 +1,5 @@
 -- What the labelling promises, and that this is one outcome; then, for the functions within, what
--- settling the sheet promises.
+-- counting promises.
 pub mod Promise
 pub mod Outcome
-pub mod Settling
+pub mod Counting

@@ -4,7 +4,7 @@ use mathlib.Core.List.{List}
 use Prim.Native.Nat.{ℕ}
 use Rattle.field.specs.Labels.{Closed, Shut, RockOn, LabelSheet, Count}
 use Rattle.field.specs.Groups.{Groups}
-pub use Rattle.closing.specs.Promise.{Stamped, Stones}
+pub use Rattle.rows.specs.Sheets.{Stamped, Stones}
 use Rattle.labels.specs.declared.Labelled.{Labelled}
 
 -- "Labelling hands back the numbers of rocks' crossings, shut crossings and groups": s is the sheet

@@ -1,6 +1,7 @@
 //! The calls that are measured, each made so many times over by one side.
 use crate::input::Input;
 use crate::layer::{Layer, Listing};
+use crate::plain::Stack;
 use crate::room::{Room, Window};
 use grainbodkin_sys::{
     Assurance, Counted, Drove, Four, Homeward, Labelling, Marker, ReadMap, WroteMap,
@@ -98,6 +99,15 @@ fn again<A>(times: usize, mut call: impl FnMut() -> A) -> A {
         black_box(call());
     }
     black_box(call())
+}
+
+/// Labelling crossing by crossing, so many times.
+#[inline(never)]
+pub fn stack_again(input: &Input, room: &mut Room, times: usize) -> Answer {
+    let (list, n) = (black_box(&input.list[..]), input.list.len());
+    let (w, h) = black_box((input.side, input.side));
+    let label = || Stack::label(list, n, w, h, &mut room.labels);
+    Answer::Labelling(again(times, label))
 }
 
 /// One side's call, so many times over the same input into the same room, and the last answer. The room holds what the last call left.

@@ -2,8 +2,10 @@
 //!
 //!     bench                               asserts that both sides agree on every row, then prints each row's times and their ratio
 //!     bench rows                          the rows: call, side, map
-//!     bench one CALL SIDE MAP WHICH COUNT makes one side's call so many times, for a count of instructions; WHICH is library, plain,
-//!                                         or, to enter and clear alone, block
+//!     bench one CALL SIDE MAP WHICH COUNT makes one side's call so many times, for a profile; WHICH is library, plain, or, to enter and
+//!                                         clear alone, block, or, to label alone, stack
+//!     bench counted CALL...               makes each row's call once and nine times, on every side, with marks between, for a count of
+//!                                         instructions; of these calls alone where any are named
 //!     bench show MAP SIDE                 a map and its labels
 // The calls take what document 01 lends them.
 #![allow(clippy::too_many_arguments)]
@@ -17,7 +19,7 @@ mod plain;
 mod room;
 mod timing;
 
-use calls::{clear_again, enter_again, repeat, Answer, Call, CALLS};
+use calls::{clear_again, enter_again, repeat, stack_again, Answer, Call, CALLS};
 use input::Input;
 use layer::Layer;
 use library::Library;
@@ -33,13 +35,14 @@ fn main() -> ExitCode {
     let done = match words[..] {
         [] => times(),
         ["rows"] => rows(),
+        ["counted", ..] => counted(&words[1..]),
         ["one", call, side, map, which, count] => one(call, side, map, which, count),
         ["show", map, side] => show(map, side),
         _ => None,
     };
     if done.is_none() {
         eprintln!(
-            "usage: bench [rows | one CALL SIDE MAP library|plain|block COUNT | show MAP SIDE]"
+            "usage: bench [rows | counted CALL... | one CALL SIDE MAP library|plain|block|stack COUNT | show MAP SIDE]"
         );
         return ExitCode::FAILURE;
     }
@@ -87,6 +90,15 @@ fn times() -> Option<()> {
         let ratio = library / plain;
         println!("{name:10}{side:5}  {map:13}{refusal:8}{library:12.0}{plain:12.0}{ratio:8.2}");
     });
+    println!("labelling crossing by crossing, ns");
+    each_row(|_, call, side, map| {
+        if call == Call::Label {
+            println!(
+                "{side:5}  {map:13}{:12.0}",
+                timing::stack(&input(map, side))
+            );
+        }
+    });
     Some(())
 }
 
@@ -100,6 +112,16 @@ fn agree(name: &str, call: Call, input: &Input, map: &str) -> Answer {
     let (plain, plain_room) = after::<Plain>(call, input);
     assert_eq!(library, plain, "{name} {} {map}: answers", input.side);
     assert_eq!(library_room, plain_room, "{name} {} {map}", input.side);
+    if call == Call::Label {
+        let mut room = Room::new(input);
+        let stack = stack_again(input, &mut room, 2);
+        assert_eq!(
+            (library, &library_room),
+            (stack, &room),
+            "{name} {} {map}",
+            input.side
+        );
+    }
     if let Some(block) = block(call, input, 2) {
         assert_eq!(
             (library, library_room),
@@ -127,18 +149,51 @@ fn after<L: Layer>(call: Call, input: &Input) -> (Answer, Room) {
     (repeat::<L>(call, input, &mut room, 2), room)
 }
 
+/// One side's call so many times, where the side has it.
+fn made(call: Call, input: &Input, which: &str, count: usize) -> Option<Answer> {
+    let mut room = Room::new(input);
+    match which {
+        "library" => Some(repeat::<Library>(call, input, &mut room, count)),
+        "plain" => Some(repeat::<Plain>(call, input, &mut room, count)),
+        "block" => Some(block(call, input, count)?.0),
+        "stack" if call == Call::Label => Some(stack_again(input, &mut room, count)),
+        _ => None,
+    }
+}
+
 /// One side's call so many times.
 fn one(call: &str, side: &str, map: &str, which: &str, count: &str) -> Option<()> {
-    let call = Call::named(call)?;
     let input = Input::new(map, self::side(side)?)?;
-    let count = count.parse().ok()?;
-    let mut room = Room::new(&input);
-    match which {
-        "library" => repeat::<Library>(call, &input, &mut room, count),
-        "plain" => repeat::<Plain>(call, &input, &mut room, count),
-        "block" => block(call, &input, count)?.0,
-        _ => return None,
-    };
+    made(Call::named(call)?, &input, which, count.parse().ok()?)?;
+    Some(())
+}
+
+/// Where a count of instructions ends, and the next begins.
+#[inline(never)]
+#[no_mangle]
+pub extern "C" fn bench_mark(which: u64) {
+    std::hint::black_box(which);
+}
+
+/// Every row's call on every side, once and then nine times, between marks: the difference is eight calls.
+fn counted(calls: &[&str]) -> Option<()> {
+    each_row(|name, call, side, map| {
+        if !calls.is_empty() && !calls.contains(&name) {
+            return;
+        }
+        let input = input(map, side);
+        for which in ["library", "plain", "block", "stack"] {
+            if made(call, &input, which, 1).is_none() {
+                continue;
+            }
+            bench_mark(0);
+            made(call, &input, which, 1);
+            bench_mark(1);
+            made(call, &input, which, 9);
+            bench_mark(2);
+            println!("{name} {side} {map} {which}");
+        }
+    });
     Some(())
 }
 

@@ -1,7 +1,7 @@
 //! The maps that are measured, square, each by its name.
 
 /// Every map's name.
-pub const NAMES: [&str; 11] = [
+pub const NAMES: [&str; 12] = [
     "empty",
     "sparse",
     "dense",
@@ -13,13 +13,15 @@ pub const NAMES: [&str; 11] = [
     "blocks",
     "spiral-1",
     "spiral-2",
+    "winding",
 ];
 
 /// The map of this name, `side` crossings a side: whether each crossing has a rock, by number.
 ///
 /// `sparse` and `dense` have 5 and 30 in a hundred crossings with a rock, drawn with a fixed seed. The lattices have single rocks with gaps of one and
 /// of two crossings between them; `blocks` has squares of four by four rocks with gaps of two, so that much is closed and nothing is shut. The spirals
-/// are a wall of rocks that winds inward, with an open corridor one and two crossings wide.
+/// are a wall of rocks that winds inward, with an open corridor one and two crossings wide. `winding` has single rocks that wind outward, each two
+/// crossings off the rectangle that those before it close: that is worst for sweeps to the north and to the south.
 pub fn rocks(name: &str, side: usize) -> Option<Vec<bool>> {
     let each = |rock: fn(usize, usize) -> bool| {
         Some((0..side * side).map(|i| rock(i % side, i / side)).collect())
@@ -36,6 +38,7 @@ pub fn rocks(name: &str, side: usize) -> Option<Vec<bool>> {
         "blocks" => each(|x, y| (x + 5) % 6 < 4 && (y + 5) % 6 < 4),
         "spiral-1" => Some(spiral(side, 1)),
         "spiral-2" => Some(spiral(side, 2)),
+        "winding" => Some(winding(side)),
         _ => None,
     }
 }
@@ -80,6 +83,30 @@ fn spiral(side: usize, corridor: usize) -> Vec<bool> {
             y += dy;
             map[y as usize * side + x as usize] = true;
         }
+    }
+    map
+}
+
+/// Rocks wound outward from the middle. Each stands two crossings off one edge of the rectangle closed so far, at the corner that the rock before it
+/// added; so it is reached only once that one is, and each turn of the winding takes a sweep to the north and one to the south.
+fn winding(side: usize) -> Vec<bool> {
+    let mut map = vec![false; side * side];
+    let middle = side / 2;
+    let (mut west, mut south, mut east, mut north) = (middle, middle, middle, middle);
+    map[middle * side + middle] = true;
+    for leg in 0.. {
+        let (x, y) = match leg % 4 {
+            0 => (east + 2, south),
+            1 => (east, north + 2),
+            2 => (west.wrapping_sub(2), north),
+            _ => (west, south.wrapping_sub(2)),
+        };
+        if x >= side || y >= side {
+            break;
+        }
+        map[y * side + x] = true;
+        (west, south) = (west.min(x), south.min(y));
+        (east, north) = (east.max(x), north.max(y));
     }
     map
 }

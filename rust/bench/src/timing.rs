@@ -1,5 +1,5 @@
 //! Times: both sides in turn, many short rounds, the quickest round of each.
-use crate::calls::{repeat, Call};
+use crate::calls::{repeat, stack_again, Call};
 use crate::input::Input;
 use crate::layer::Layer;
 use crate::library::Library;
@@ -29,4 +29,16 @@ fn round<L: Layer>(call: Call, input: &Input, room: &mut Room, times: usize) -> 
     let start = Instant::now();
     repeat::<L>(call, input, room, times);
     start.elapsed().as_nanos() as f64 / times as f64
+}
+
+/// Nanoseconds a labelling crossing by crossing.
+pub fn stack(input: &Input) -> f64 {
+    let mut room = Room::new(input);
+    let mut best = f64::MAX;
+    for _ in 0..ROUNDS {
+        let start = Instant::now();
+        stack_again(input, &mut room, 4);
+        best = best.min(start.elapsed().as_nanos() as f64 / 4.0);
+    }
+    best
 }

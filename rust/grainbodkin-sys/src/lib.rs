@@ -9,7 +9,7 @@
 #![no_std]
 
 /// The most bytes of stack that a call is held to below its caller, as the header's `BODKIN_STACK`.
-pub const STACK: usize = 9_216;
+pub const STACK: usize = 7_168;
 
 /// A rock marker: an id, 1 to 65,535, and a crossing.
 #[repr(C)]

@@ -1,23 +1,23 @@
--- `closing::close` meets its contract: the stack has room for every crossing of the map.
+-- `closing::close` meets its contract.
+use mathlib.Core.Path.{_≡_, refl, sym, ap, _∙_}
+use mathlib.Core.Logic.{_⊎_, inl, inr}
+use Prim.Native.Nat.{ℕ, suc, _+_, _-_, _*_, _/_, _%_, _^_, _<_, _≤_}
 use native.Mathlib.Omega.{arith}
+use lib.ListN.{length, getD, length-set}
+use Rattle.field.specs.Limits.{side-number}
+use Rattle.rows.specs.Layout.{sides-h}
+use Rattle.closing.proofs.Laws.Marks.{marks-start}
 use borrow.Author.Needs.{needs}
-use Rattle.field.specs.Limits.{crossings-few}
 use Rattle.closing.proofs.close.Statement.{statement}
 use Rattle.closing.proofs.close.Tie as tie
 
-slice-aggregate-gather : tie.Need-slice-aggregate-gather
-slice-aggregate-gather c = search needs
+slice-aggregate-settle : tie.Need-slice-aggregate-settle
+slice-aggregate-settle c = search needs
 
-gather-requires : tie.Need-gather-requires
-gather-requires c κs = record { stamped = c .before .before .before .pre; deep = crossings-few (c .before .before .before .pre .sides) }
-
-slice-aggregate-drain : tie.Need-slice-aggregate-drain
-slice-aggregate-drain c = search needs
-
-drain-requires : tie.Need-drain-requires
-drain-requires c κs =
-    let p = c .before .before .before .before .before .before .before .pre in
-    record { stamped = p; deep = omega (arith, crossings-few (p .sides)); gathered = c .before .before .before .gather .ensures }
+settle-requires : tie.Need-settle-requires
+settle-requires c κs =
+    let p = c .before .before .before .pre in
+    record { sweeping = p; marks = marks-start {n = side-number + 2} (omega (arith, sides-h (p .sides))) (omega (arith, sides-h (p .sides))) }
 
 same-length : tie.Need-same-length
 same-length c = search needs
@@ -26,12 +26,4 @@ returns : tie.Need-returns
 returns c = search needs
 
 pub close-spec : {M : Type 1} → statement M
-close-spec =
-    tie.close
-    (tie.spec
-    slice-aggregate-gather
-    gather-requires
-    slice-aggregate-drain
-    drain-requires
-    same-length
-    returns)
+close-spec = tie.close (tie.spec slice-aggregate-settle settle-requires same-length returns)

@@ -17,18 +17,18 @@ fn on_map(w: usize, h: usize, (x, y): Place) -> bool {
     x < w && y < h
 }
 
-/// The first part of every asking: the lowest of refusals 1 to 4, or the rocks stamped on the label sheet. `others` tells whether every other lent
+/// The first part of every asking: the lowest of refusals 1 to 4, or the markers in use. `others` tells whether every other lent
 /// sheet is of the map's size; `a` and `b` are the places asked.
-pub fn prepare(
-    list: &[Marker],
+pub fn prepare<'a>(
+    list: &'a [Marker],
     count: usize,
     w: usize,
     h: usize,
     a: Place,
     b: Place,
     others: bool,
-    labels: &mut [u8],
-) -> Result<(), u8> {
+    labels: &[u8],
+) -> Result<&'a [Marker], u8> {
     if !sized(w, h) {
         return Err(BAD_SIZE);
     }
@@ -41,8 +41,7 @@ pub fn prepare(
     if !on_map(w, h, a) || !on_map(w, h, b) {
         return Err(BAD_PLACE);
     }
-    records::stamp(&list[..count], w, labels);
-    Ok(())
+    Ok(&list[..count])
 }
 
 /// Refusal 1 or 3, or where the id stands among those in use, or else where it belongs.

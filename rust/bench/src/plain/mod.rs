@@ -2,18 +2,18 @@
 //! order, same lent memory. No `unsafe`, nothing left out and nothing added to slow it down.
 #![forbid(unsafe_code)]
 
-mod closing;
 mod distances;
 mod drives;
 mod header;
 mod hops;
 mod judging;
+mod labelling;
 mod limits;
 mod raster;
 mod reader;
 mod records;
 mod region;
-mod settling;
+mod stack;
 mod writer;
 
 use crate::layer::{Layer, Listing};
@@ -68,7 +68,7 @@ impl Layer for Plain {
                 shut: 0,
                 groups: 0,
             },
-            Ok(()) => settling::label(labels, w, h),
+            Ok(markers) => labelling::label(markers, w, h, labels),
         }
     }
 
@@ -82,11 +82,14 @@ impl Layer for Plain {
         y: usize,
         labels: &mut [u8],
     ) -> Four {
-        if let Err(refusal) = prepare(list, count, w, h, (x, y), (x, y), true, labels) {
-            let four = [0; 4];
-            return Four { refusal, four };
-        }
-        settling::label(labels, w, h);
+        let markers = match prepare(list, count, w, h, (x, y), (x, y), true, labels) {
+            Ok(markers) => markers,
+            Err(refusal) => {
+                let four = [0; 4];
+                return Four { refusal, four };
+            }
+        };
+        labelling::label(markers, w, h, labels);
         Four {
             refusal: SUCCESS,
             four: distances::four(labels, w, x, y),
@@ -107,10 +110,13 @@ impl Layer for Plain {
     ) -> u8 {
         let lengths = [east.len(), south.len(), west.len(), north.len()];
         let others = lengths.iter().all(|&n| fits(w, h, n));
-        if let Err(refusal) = prepare(list, count, w, h, (0, 0), (0, 0), others, labels) {
-            return refusal;
-        }
-        settling::label(labels, w, h);
+        let markers = match prepare(list, count, w, h, (0, 0), (0, 0), others, labels) {
+            Ok(markers) => markers,
+            Err(refusal) => {
+                return refusal;
+            }
+        };
+        labelling::label(markers, w, h, labels);
         distances::measure(labels, w, east, south, west, north);
         SUCCESS
     }
@@ -127,11 +133,14 @@ impl Layer for Plain {
         y: usize,
         labels: &mut [u8],
     ) -> Assurance {
-        if let Err(refusal) = prepare(list, count, w, h, (hx, hy), (x, y), true, labels) {
-            let assured = false;
-            return Assurance { refusal, assured };
-        }
-        settling::label(labels, w, h);
+        let markers = match prepare(list, count, w, h, (hx, hy), (x, y), true, labels) {
+            Ok(markers) => markers,
+            Err(refusal) => {
+                let assured = false;
+                return Assurance { refusal, assured };
+            }
+        };
+        labelling::label(markers, w, h, labels);
         hops::assurance(labels, w, (hx, hy), (x, y))
     }
 
@@ -147,10 +156,13 @@ impl Layer for Plain {
         y: usize,
         labels: &mut [u8],
     ) -> Homeward {
-        if let Err(refusal) = prepare(list, count, w, h, (hx, hy), (x, y), true, labels) {
-            return hops::no_hop(refusal);
-        }
-        settling::label(labels, w, h);
+        let markers = match prepare(list, count, w, h, (hx, hy), (x, y), true, labels) {
+            Ok(markers) => markers,
+            Err(refusal) => {
+                return hops::no_hop(refusal);
+            }
+        };
+        labelling::label(markers, w, h, labels);
         hops::homeward(labels, w, (hx, hy), (x, y))
     }
 
@@ -168,10 +180,13 @@ impl Layer for Plain {
         region: &mut [u8],
     ) -> u8 {
         let others = fits(w, h, region.len());
-        if let Err(refusal) = prepare(list, count, w, h, (sx, sy), (dx, dy), others, labels) {
-            return refusal;
-        }
-        settling::label(labels, w, h);
+        let markers = match prepare(list, count, w, h, (sx, sy), (dx, dy), others, labels) {
+            Ok(markers) => markers,
+            Err(refusal) => {
+                return refusal;
+            }
+        };
+        labelling::label(markers, w, h, labels);
         match region::region(labels, w, (sx, sy), (dx, dy), region) {
             Err(refusal) => refusal,
             Ok(()) => SUCCESS,
@@ -195,10 +210,13 @@ impl Layer for Plain {
     ) -> Drove {
         let length = 0;
         let others = fits(w, h, region.len());
-        if let Err(refusal) = prepare(list, count, w, h, (sx, sy), (dx, dy), others, labels) {
-            return Drove { refusal, length };
-        }
-        settling::label(labels, w, h);
+        let markers = match prepare(list, count, w, h, (sx, sy), (dx, dy), others, labels) {
+            Ok(markers) => markers,
+            Err(refusal) => {
+                return Drove { refusal, length };
+            }
+        };
+        labelling::label(markers, w, h, labels);
         match drives::drive(labels, w, (sx, sy), (dx, dy), region, route, state) {
             Err(refusal) => Drove { refusal, length },
             Ok(length) => Drove {
@@ -270,6 +288,34 @@ impl Listing for Block {
                 refusal: SUCCESS,
                 count: records::clear_block(list, count, place),
             },
+        }
+    }
+}
+
+/// Labelling crossing by crossing, with a stack and with notes of directions in the sheet's own bytes. Not the library's method; it shows what rows of
+/// bits save.
+pub struct Stack;
+
+impl Stack {
+    #[inline(never)]
+    pub fn label(
+        list: &[Marker],
+        count: usize,
+        w: usize,
+        h: usize,
+        labels: &mut [u8],
+    ) -> Labelling {
+        match prepare(list, count, w, h, (0, 0), (0, 0), true, labels) {
+            Err(refusal) => Labelling {
+                refusal,
+                rocks: 0,
+                shut: 0,
+                groups: 0,
+            },
+            Ok(markers) => {
+                records::stamp(markers, w, labels);
+                stack::label(labels, w, h)
+            }
         }
     }
 }

@@ -1,6 +1,7 @@
 //! The map writer: P4. The markers are stamped on a sheet first; fewer marks than markers tell that two share a crossing.
 use super::judging::prepare;
 use super::limits::*;
+use super::records;
 use grainbodkin_sys::Marker;
 
 /// Writes the list as a map file. Hands back the number of bytes written, or refusal 1, 3, 16 or 17, which changes none.
@@ -14,7 +15,8 @@ pub fn write_list(
     let mut sheet = [OPEN; MOST_CROSSINGS];
     let size = if w <= SIDE && h <= SIDE { w * h } else { 0 };
     let sheet = &mut sheet[..size];
-    prepare(list, count, w, h, (0, 0), (0, 0), true, sheet)?;
+    let markers = prepare(list, count, w, h, (0, 0), (0, 0), true, sheet)?;
+    records::stamp(markers, w, sheet);
     if sheet.iter().filter(|&&b| b != OPEN).count() != count {
         return Err(SHARED_CROSSING);
     }

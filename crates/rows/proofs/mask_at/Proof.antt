@@ -1,0 +1,22 @@
+-- `rows::mask_at` meets its contract.
+use mathlib.Core.Path.{_≡_, refl, sym, ap, _∙_}
+use mathlib.Core.Logic.{_⊎_, inl, inr}
+use Prim.Native.Nat.{ℕ, suc, _+_, _-_, _*_, _/_, _%_, _^_, _<_, _≤_}
+use native.Mathlib.Omega.{arith}
+use lib.ListN.{length, getD, length-set}
+use Rattle.rows.proofs.Laws.Widths.{mask-at}
+use borrow.Author.Needs.{needs}
+use Rattle.rows.proofs.mask_at.Statement.{statement}
+use Rattle.rows.proofs.mask_at.Tie as tie
+
+width-at-requires : tie.Need-width-at-requires
+width-at-requires c κs = search needs
+
+mask-of-requires : tie.Need-mask-of-requires
+mask-of-requires c κs = search needs
+
+returns : tie.Need-returns
+returns c = mask-at (c .before .width-at .ensures) (c .mask-of .ensures)
+
+pub mask-at-spec : {M : Type 1} → statement M
+mask-at-spec = tie.close (tie.spec width-at-requires mask-of-requires returns)

@@ -1,0 +1,63 @@
+-- `rows::put_row` meets its contract.
+use mathlib.Core.Path.{_≡_, refl, sym, ap, _∙_}
+use mathlib.Core.Logic.{_⊎_, inl, inr}
+use Prim.Native.Nat.{ℕ, suc, _+_, _-_, _*_, _/_, _%_, _^_, _<_, _≤_}
+use native.Mathlib.Omega.{arith}
+use lib.ListN.{length, getD, length-set}
+use Rattle.rows.specs.Sheets.{Drawing, Putting, PuttingRow, Wrote}
+use Rattle.rows.specs.Layout.{words, stride, sides-w, sides-h}
+use Rattle.rows.proofs.Laws.Widths.{row-in}
+use Rattle.rows.proofs.Laws.Writing.{wrote-start, wrote-next, wrote-all, putting-next, put-skip, put-done}
+use Rattle.rows.specs.Laws.{last-or-before}
+use borrow.Author.Needs.{needs}
+use Rattle.rows.proofs.put_row.Statement.{statement}
+use Rattle.rows.proofs.put_row.Tie as tie
+
+abbrev Inv-loop : tie.InvT-loop
+Inv-loop s₀ w h y rock c j₀ s j = (64 * j < w + 64) × (w ≤ 64 * words) × Wrote (λ (b a : ℕ). (b ≡ y) × (a < j)) w h rock c s₀ s
+
+abbrev μ-loop : tie.MeasureT-loop
+μ-loop s₀ w h y rock c j₀ s j = w - 64 * j
+
+loop-holds : tie.Need-loop-holds Inv-loop μ-loop
+loop-holds c = (omega arith, sides-w (c .before .before .before .pre .putting .sides), wrote-start (c .before .before .before .pre .putting) (λ b a d. omega (arith, d .1)))
+
+mul-loop : tie.Need-mul-loop Inv-loop μ-loop
+mul-loop c = search needs
+
+put-word-requires : tie.Need-put-word-requires Inv-loop μ-loop
+put-word-requires c κs =
+    let p = c .before .before .before .before .before .before .pre in
+    record { putting = putting-next (p .putting) (c .before .before .loop .inv .2); in-y = p .in-y; in-x = omega arith }
+
+add-j : tie.Need-add-j Inv-loop μ-loop
+add-j c = search needs
+
+loop-less : tie.Need-loop-less Inv-loop μ-loop
+loop-less c = search needs
+
+loop-again : tie.Need-loop-again Inv-loop μ-loop
+loop-again c =
+    let l = c .before .before .before .before .before .loop in
+    (omega arith, l .inv .1, wrote-next (l .inv .2) (c .before .before .put-word .ensures) (λ b a p. last-or-before (l .j) a (p .1) (λ m. (p .0, m)) (λ m. (p .0, m))))
+
+same-length : tie.Need-same-length Inv-loop μ-loop
+same-length c = c .before .loop .inv .2 .size
+
+returns : tie.Need-returns Inv-loop μ-loop
+returns c = wrote-all (λ b a p. (p .0, omega (arith, p .1))) (c .before .loop .inv .2)
+
+pub put-row-spec : {M : Type 1} → statement M
+put-row-spec =
+    tie.close
+    (tie.spec
+    Inv-loop
+    μ-loop
+    loop-holds
+    mul-loop
+    put-word-requires
+    add-j
+    loop-less
+    loop-again
+    same-length
+    returns)

@@ -1,0 +1,2 @@
+-- The laws behind the functions' proofs, in plain mathematics of bits and bytes.
+pub mod Laws

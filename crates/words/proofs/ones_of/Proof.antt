@@ -1,0 +1,18 @@
+-- `words::ones_of` meets its contract.
+use mathlib.Core.Path.{_≡_, refl, sym, ap, _∙_}
+use Prim.Native.Nat.{ℕ, _+_, _-_, _*_, _<_, _≤_}
+use native.Mathlib.Omega.{arith}
+use lib.ListN.{length, getD}
+use lib.Count.{ones, ones-le}
+use Rattle.words.specs.Words.{Ones}
+use Rattle.words.proofs.ones_of.Statement.{statement}
+use Rattle.words.proofs.ones_of.Tie as tie
+
+cast-result : tie.Need-cast-result
+cast-result c = omega (arith, ones-le 64 (c .args .v) (c .fits .v .fits))
+
+returns : tie.Need-returns
+returns c = record { is = refl; most = ones-le 64 (c .args .v) (c .fits .v .fits) }
+
+pub ones-of-spec : {M : Type 1} → statement M
+ones-of-spec = tie.close (tie.spec cast-result returns)

@@ -1,0 +1,3 @@
+-- What the functions between words and bytes promise.
+pub mod Words
+pub mod Eights
