@@ -197,7 +197,8 @@ uint8_t bodkin_measure(const struct bodkin_marker *list, size_t lent, size_t cou
                        size_t west_len, uint8_t *north, size_t north_len);
 
 /*
- * Whether home (hx, hy) is assured for the place (x, y). The label sheet holds the labels.
+ * Whether home (hx, hy) is assured for the place (x, y): both are open and, on each axis, the offset is 0, or home's distance that way is
+ * BODKIN_NO_DISTANCE, or the offset is at most that distance. The label sheet holds the labels.
  * Refuses 1, 2, 3 or 4, and then no byte changes; or 8, and then the label sheet holds the labels.
  */
 BODKIN_ANSWER

@@ -274,8 +274,8 @@ static void ends(void) {
     labels_at(drive, BODKIN_NO_DRIVE, REGION, "drive (0,2) to (7,2): refused 9, route and state unchanged");
     expect(all_zero(now.region), "the region sheet is all 0 at 9");
     set();
-    q.x = 3, q.y = 5;
-    labels_at(hop, BODKIN_NOT_ASSURED, NOTHING, "hop, home (0,2) not assured for (3,5): refused 11");
+    q.x = 4, q.y = 5;
+    labels_at(hop, BODKIN_NOT_ASSURED, NOTHING, "hop, home (0,2) not assured for (4,5): refused 11");
 }
 
 static void routes(void) {

@@ -95,7 +95,11 @@ static void way_home(void) {
     struct bodkin_assurance home = bodkin_assured(list, SLOTS, count, SIDE, SIDE, 0, 2, 2, 5, labels, CROSSINGS);
     expect(home.refusal == 0 && home.assured, "R, home (0,2): assured for (2,5)");
     home = bodkin_assured(list, SLOTS, count, SIDE, SIDE, 0, 2, 3, 5, labels, CROSSINGS);
-    expect(home.refusal == 0 && !home.assured, "not for (3,5)");
+    expect(home.refusal == 0 && home.assured, "for (3,5), whose offset equals home's distance");
+    home = bodkin_assured(list, SLOTS, count, SIDE, SIDE, 0, 2, 4, 5, labels, CROSSINGS);
+    expect(home.refusal == 0 && !home.assured, "not for (4,5)");
+    struct bodkin_homeward one = bodkin_hop(list, SLOTS, count, SIDE, SIDE, 0, 2, 3, 4, labels, CROSSINGS);
+    expect(one.hops == 1 && one.x == 2 && one.y == 4, "from (3,4), above the block, the one hop leaves its column");
     struct bodkin_homeward two = bodkin_hop(list, SLOTS, count, SIDE, SIDE, 0, 2, 2, 5, labels, CROSSINGS);
     expect(two.hops == 2 && two.x == 1 && two.y == 5 && two.a == 2 && two.b == 4, "two hops are permitted from (2,5), the east-west one first");
     struct bodkin_homeward there = bodkin_hop(list, SLOTS, count, SIDE, SIDE, 0, 2, 0, 2, labels, CROSSINGS);

@@ -31,15 +31,15 @@ pub fn distances(s: &[u8], w: usize, h: usize, x: usize, y: usize) -> [u8; 4]
     ]
 }
 
-// Whether home's distance that way leaves room for the offset: it is none, or the offset is less.
-// No other function compares the two.
+// Whether home's distance that way leaves room for the offset: it is none, or the offset is at most
+// that. No other function compares the two.
 fn enough(offset: usize, n: u8) -> bool
     ensures { λ r. ⌜ r ≡ enoughOf offset n ⌝ }
 {
     if n == NONE {
         return true;
     }
-    offset < n as usize
+    offset <= n as usize
 }
 
 // Whether one axis lets home at m be assured for the place at p, with home's distances upwards and

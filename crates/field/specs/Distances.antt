@@ -1,7 +1,7 @@
 -- Clear distances, and whether home is assured. C tells the closed crossings.
 use mathlib.Core.Path.{_≡_}
 use mathlib.Core.List.{List, [], _∷_}
-use Prim.Native.Nat.{ℕ, _+_, _*_, _<_}
+use Prim.Native.Nat.{ℕ, _+_, _*_, _<_, _≤_}
 use lib.ListN.{length}
 use Rattle.field.specs.Map.{On, at, gap, no-distance}
 use Rattle.field.specs.Labels.{Open}
@@ -42,21 +42,22 @@ pub record DistanceSheet (w h : ℕ) (C : ℕ → ℕ → Type 0) (t : Way) (she
   pub size : length sheet ≡ h * w
   pub distance : (x y : ℕ) → On w h x y → Clear C t x y (at sheet w x y)
 
--- "home's distance that way is 255, or the offset is less than that distance"
+-- "home's distance that way is 255", or, as Req 02 has it, "offset at most the distance": "an
+-- offset equal to home's distance is good enough, since the place itself must be open."
 pub data Enough (offset n : ℕ) : Type 0 where
   nothing-that-way : n ≡ no-distance → Enough offset n
-  nearer : offset < n → Enough offset n
+  at-most : offset ≤ n → Enough offset n
 
 -- One axis, home at m and the place at p on it; D tells home's distances on this axis, upwards and
--- downwards. "the offset from home to the place is 0, or home's distance that way is 255, or the
--- offset is less than that distance"
+-- downwards. "the offset from home to the place is 0, or home's distance that way is 255", or the
+-- offset is at most that distance.
 pub data Axis (D : Way → ℕ → Type 0) (up down : Way) (m p : ℕ) : Type 0 where
   level : p ≡ m → Axis D up down m p
   above : m < p → (n : ℕ) → D up n → Enough (gap m p) n → Axis D up down m p
   below : p < m → (n : ℕ) → D down n → Enough (gap m p) n → Axis D up down m p
 
 -- "Home is *assured* for a place when both are open and, on each axis, the offset from home to the
--- place is 0, or home's distance that way is 255, or the offset is less than that distance."
+-- place is 0, or home's distance that way is 255", or the offset is at most that distance (Req 02).
 pub record Assured (w h : ℕ) (C : ℕ → ℕ → Type 0) (hx hy x y : ℕ) : Type 0 where
   pub home : Open w h C hx hy
   pub place : Open w h C x y

@@ -27,14 +27,14 @@ further-table =
     ∷ distances around 4 4 (3 ∷ 2 ∷ 4 ∷ 1 ∷ [])
     -- Assurance. The north-south axis counts: example 8 has nothing closed on it. North, home (4,0)
     -- has 2.
-    ∷ assured R 4 0 7 1
-    ∷ not-assured R 4 0 7 2
+    ∷ assured R 4 0 7 2
+    ∷ not-assured R 4 0 7 3
     -- West of home it is the west distance that counts, and south of home the south one: home (7,2)
     -- has 2 west, home (4,6) has 3 south.
-    ∷ assured R 7 2 6 6
-    ∷ not-assured R 7 2 5 6
-    ∷ assured R 4 6 1 4
-    ∷ not-assured R 4 6 1 3
+    ∷ assured R 7 2 5 6
+    ∷ not-assured R 7 2 4 6
+    ∷ assured R 4 6 1 3
+    ∷ not-assured R 4 6 1 2
     -- Both are to be open. Home (0,5) has no distance any way: for a rock and for a shut crossing
     -- it is not assured by their being closed alone; nor is a closed home for itself, at offset 0
     -- on each axis.

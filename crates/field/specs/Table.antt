@@ -142,9 +142,9 @@ table =
     ∷ distances R 0 2 (3 ∷ 255 ∷ 255 ∷ 255 ∷ [])
     ∷ distances R 4 0 (255 ∷ 255 ∷ 255 ∷ 2 ∷ [])
     ∷ distances R 4 2 (0 ∷ 0 ∷ 0 ∷ 0 ∷ [])
-    -- 8. "R, home (0,2): assured for (2,5), not for (3,5), not for (4,5)."
+    -- 8. "R, home (0,2): assured for (2,5)"; with Req 02 "assured for (3,5), still not for (4,5)."
     ∷ assured R 0 2 2 5
-    ∷ not-assured R 0 2 3 5
+    ∷ assured R 0 2 3 5
     ∷ not-assured R 0 2 4 5
     -- 9. "R: (0,2) to (7,2) refused 9; (0,2) to (7,4) has a drive of 9 hops."
     ∷ refused-9 R 0 2 7 2

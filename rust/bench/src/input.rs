@@ -73,7 +73,8 @@ impl Input {
         Plain::region(list, n, side, side, sx, sy, dx, dy, labels, region) == 0
     }
 
-    /// The open crossing farthest from an open home for which home is assured: both offsets are less than home's distances, or there are none.
+    /// The open crossing farthest from an open home for which home is assured: both offsets are at most home's distances, or there
+    /// are none.
     fn farthest_assured(&self, home: Place, open: &[Place]) -> Place {
         let (list, n, side) = (&self.list, self.list.len(), self.side);
         let mut labels = vec![0; side * side];
@@ -83,7 +84,7 @@ impl Input {
         let assured = |&(x, y): &Place| {
             let row = if x < hx { west } else { east };
             let column = if y < hy { south } else { north };
-            x.abs_diff(hx) < row && y.abs_diff(hy) < column
+            x.abs_diff(hx) <= row && y.abs_diff(hy) <= column
         };
         let places = open.iter().copied().filter(assured);
         places.max_by_key(|&p| distance(home, p)).unwrap_or(home)

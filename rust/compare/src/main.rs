@@ -13,6 +13,7 @@ mod edits;
 mod expected;
 mod guard;
 mod harms;
+mod journeys;
 mod lendings;
 mod library;
 mod lists;
@@ -63,6 +64,11 @@ fn main() -> ExitCode {
         None => program::Runs::default(),
     };
     faults.extend(runs.faults);
+    if options.cases >= tally::WHOLE {
+        let journeys = journeys::run(options.seed);
+        journeys.print();
+        faults.extend(journeys.faults);
+    }
     for fault in &faults {
         println!("compare: {fault}");
     }

@@ -66,7 +66,7 @@ impl Markers {
     }
 
     /// Whether home is assured for a place: both are open and, on each axis, the offset from home
-    /// to the place is 0, or home's distance that way is none, or the offset is less than that
+    /// to the place is 0, or home's distance that way is none, or the offset is at most that
     /// distance.
     ///
     /// # Errors
@@ -81,7 +81,8 @@ impl Markers {
     /// let markers = Markers::read(file, 3)?;
     /// let home = Place::new(0, 2);
     /// assert!(markers.assured(home, Place::new(2, 5))?);
-    /// assert!(!markers.assured(home, Place::new(3, 5))?);
+    /// assert!(markers.assured(home, Place::new(3, 5))?);
+    /// assert!(!markers.assured(home, Place::new(4, 5))?);
     /// assert_eq!(markers.assured(home, Place::new(4, 2)), Err(Refusal::EndClosed));
     /// # Ok::<(), Refusal>(())
     /// ```

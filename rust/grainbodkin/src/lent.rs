@@ -108,8 +108,8 @@ impl MarkersRef<'_> {
     /// let list = MarkersRef { slots: &slots, count: 3, width: 8, height: 8 };
     /// let mut labels = [9; 64];
     ///
-    /// // Home (0,2) is not assured for (3,5): the hop is refused, and the sheet holds the labels all the same.
-    /// let hop = list.hop(Place::new(0, 2), Place::new(3, 5), &mut labels);
+    /// // Home (0,2) is not assured for (4,5): the hop is refused, and the sheet holds the labels all the same.
+    /// let hop = list.hop(Place::new(0, 2), Place::new(4, 5), &mut labels);
     /// assert_eq!(hop, Err(Refusal::NotAssured));
     /// assert_eq!(labels[2 * 8..3 * 8], [0, 0, 0, 1, 2, 1, 0, 0]);
     /// ```

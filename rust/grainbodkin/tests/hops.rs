@@ -6,11 +6,11 @@ use common::{asking, at, eight, owned, slots, Lent, R, R_LABELS};
 use grainbodkin::{Hops, Markers, Place, Refusal};
 
 #[test]
-fn home_is_assured_short_of_the_closed_crossing() {
+fn home_is_assured_up_to_the_closed_crossing() {
     let markers = owned(&R);
     let home = at(0, 2);
     assert_eq!(markers.assured(home, at(2, 5)), Ok(true));
-    assert_eq!(markers.assured(home, at(3, 5)), Ok(false));
+    assert_eq!(markers.assured(home, at(3, 5)), Ok(true));
     assert_eq!(markers.assured(home, at(4, 5)), Ok(false));
     assert_eq!(markers.assured(home, home), Ok(true));
 }
@@ -78,7 +78,7 @@ fn a_closed_end_is_refused_8_and_the_sheet_holds_the_labels() {
 #[test]
 fn a_hop_without_assurance_is_refused_11_and_the_sheet_holds_the_labels() {
     let mut labels = [9; 64];
-    let answer = eight(&slots(&R)).hop(at(0, 2), at(3, 5), &mut labels);
+    let answer = eight(&slots(&R)).hop(at(0, 2), at(4, 5), &mut labels);
     assert_eq!(answer, Err(Refusal::NotAssured));
     assert_eq!(labels, R_LABELS);
 }

@@ -216,7 +216,7 @@ fn every_number_is_reached() {
         markers
             .drive_into(at(0, 0), at(1, 0), &mut [0], &mut chooser)
             .unwrap_err(),
-        markers.hop(at(0, 2), at(3, 5)).unwrap_err(),
+        markers.hop(at(0, 2), at(4, 5)).unwrap_err(),
         read(b"P7"),
         read(b"P4 8"),
         read(b"P4 8 1 "),

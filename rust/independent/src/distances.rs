@@ -43,10 +43,10 @@ pub fn clear(on: &Labelled, c: Crossing, way: Way) -> u8 {
     NONE
 }
 
-/// Whether home's distance that way is enough for an offset.
+/// Whether home's distance that way is enough for an offset: "offset at most the distance" (Req 02).
 fn enough(on: &Labelled, home: Crossing, way: Way, offset: usize) -> bool {
     let distance = clear(on, home, way);
-    offset == 0 || distance == NONE || offset < usize::from(distance)
+    offset == 0 || distance == NONE || offset <= usize::from(distance)
 }
 
 /// Whether home is assured for a place.

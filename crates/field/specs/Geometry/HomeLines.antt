@@ -9,7 +9,7 @@ use native.Mathlib.Decide.{ℕ-discrete}
 use Rattle.field.specs.Map.{Sides, On, OnMap, no-distance, gap}
 use Rattle.field.specs.Labels.{Open}
 use Rattle.field.specs.Distances.{Way, eastward, southward, westward, northward, Along, Clear, at-closed, nearest, none}
-use Rattle.field.specs.Distances.{Enough, nothing-that-way, nearer, Axis, level, above, below}
+use Rattle.field.specs.Distances.{Enough, nothing-that-way, at-most, Axis, level, above, below}
 use Rattle.field.specs.Workings.AxisLaws.{gap-turned, gap-above}
 use Rattle.field.specs.Workings.GridLaws.{no-distance-far, along-short}
 use Rattle.field.specs.Geometry.Shapes.{Between}
@@ -20,10 +20,11 @@ abbrev Short : ℕ → ℕ → Type 0
 Short k n = (n ≡ no-distance) ⊎ (k < n)
 
 -- A distance that is enough for an offset is enough for each lesser one, which is short of it. This
--- is all that is used of when a distance is enough.
+-- is all that the way home uses of when a distance is enough: "short of it" is where "at most" is
+-- the most that can be asked for.
 enough-lesser : {offset n k : ℕ} → Enough offset n → k < offset → Enough k n × Short k n
 enough-lesser (nothing-that-way e) l = (nothing-that-way e, inl e)
-enough-lesser (nearer m) l = (nearer (omega arith), inr (omega arith))
+enough-lesser (at-most m) l = (at-most (omega arith), inr (omega arith))
 
 -- On document 01's maps no two crossings of a line are as far apart as the number that marks no
 -- distance, so that it is no distance. On a wider map it could be one.

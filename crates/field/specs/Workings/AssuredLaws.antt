@@ -11,7 +11,7 @@ use lib.Dec.{ltb, eqb}
 use borrow.Author.Tests.{ltb-true, lt-ltb, le-ltb, leb-true, le-leb, eqb-true, eq-eqb, ne-eqb}
 use Rattle.field.specs.Map.{On, gap, no-distance}
 use Rattle.field.specs.Labels.{Open}
-use Rattle.field.specs.Distances.{Way, eastward, southward, westward, northward, Clear, Enough, nothing-that-way, nearer, Axis, level, above, below, Assured}
+use Rattle.field.specs.Distances.{Way, eastward, southward, westward, northward, Clear, Enough, nothing-that-way, at-most, Axis, level, above, below, Assured}
 use Rattle.field.specs.Workings.Tests.{and-split, and-both, or-case, or-left, or-right, test-dec}
 use Rattle.field.specs.Workings.Sheet.{Draws, lit}
 use Rattle.field.specs.Workings.Marks.{drawn-lit, undrawn-lit}
@@ -19,16 +19,14 @@ use Rattle.field.specs.Workings.Looking.{clearOf, enoughOf, axisOf, open
 use Rattle.field.specs.Workings.AxisLaws.{Order, less, same, more, order}
 use Rattle.field.specs.Workings.ClearLaws.{clear-looks}
 
--- The one law that opens the comparison of the offset with home's distance. "Less than" is "one
--- more is at most", in the meaning and in the test, so the proof is the same whichever of the two
--- stands in both.
+-- The one law that opens the comparison of the offset with home's distance.
 pub enough-looks : (offset n : ℕ) → (Enough offset n ↔ enoughOf offset n ≡ true)
 unfolding enoughOf
-enough-looks offset n = (passes, or-case (eqb n no-distance) _ (λ e. nothing-that-way (eqb-true _ _ e)) (λ e. nearer (leb-true _ _ e)))
+enough-looks offset n = (passes, or-case (eqb n no-distance) _ (λ e. nothing-that-way (eqb-true _ _ e)) (λ e. at-most (leb-true _ _ e)))
   where
     passes : Enough offset n → enoughOf offset n ≡ true
     passes (nothing-that-way e) = or-left _ _ (eq-eqb _ _ e)
-    passes (nearer l) = or-right (eqb n no-distance) _ (le-leb _ _ l)
+    passes (at-most l) = or-right (eqb n no-distance) _ (le-leb _ _ l)
 
 -- An axis: at home's own place, above it, below it.
 pub axis-level : (u d m p : ℕ) → p ≡ m → axisOf u d m p ≡ true

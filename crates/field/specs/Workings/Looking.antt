@@ -34,7 +34,7 @@ distanceSheetOf t s w h = sheet w h (clearOf t s w h)
 
 -- One axis of assurance, home at m and the place at p, with home's distances up and down.
 unfoldable pub enoughOf : ℕ → ℕ → Bool
-enoughOf offset n = eqb n no-distance || ltb offset n
+enoughOf offset n = eqb n no-distance || leb offset n
 
 unfoldable pub axisOf : ℕ → ℕ → ℕ → ℕ → Bool
 axisOf up down m p = eqb p m || cond (ltb m p) (enoughOf (gap m p) up) (enoughOf (gap m p) down)

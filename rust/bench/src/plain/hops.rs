@@ -5,7 +5,7 @@ use grainbodkin_sys::{Assurance, Homeward};
 
 /// Whether home's distance that way leaves room for the offset.
 fn enough(offset: usize, distance: u8) -> bool {
-    distance == NONE || offset < distance as usize
+    distance == NONE || offset <= distance as usize
 }
 
 /// Whether one axis lets home at m be assured for the place at p, with home's distances upwards and downwards on it.

@@ -67,7 +67,7 @@ fn example_7_distances() {
 #[test]
 fn example_8_assurance() {
     let list = markers(&R);
-    for (place, yes) in [((2, 5), true), ((3, 5), false), ((4, 5), false)] {
+    for (place, yes) in [((2, 5), true), ((3, 5), true), ((4, 5), false)] {
         let after = assured(asking(&list, &[OLD; 64], &[at(0, 2), at(place.0, place.1)]));
         assert_eq!((after.refusal, after.assured), (0, yes), "{place:?}");
     }

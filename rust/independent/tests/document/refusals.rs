@@ -122,7 +122,7 @@ fn hops() {
     // North and east of the group one of the two hops homeward is closed.
     assert_eq!(hops(at(0, 0), at(4, 4)), (0, vec![at(3, 4)]));
     assert_eq!(hops(at(0, 0), at(6, 2)), (0, vec![at(6, 1)]));
-    assert_eq!(hops(at(0, 2), at(3, 5)), (11, vec![]));
+    assert_eq!(hops(at(0, 2), at(4, 5)), (11, vec![]));
     assert_eq!(hops(at(0, 2), at(4, 2)), (8, vec![]));
     assert_eq!(hops(at(3, 2), at(7, 7)), (8, vec![]));
 }

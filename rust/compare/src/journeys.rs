@@ -1,0 +1,174 @@
+//! Carts that are sent home on the compiled library: random maps, an assured place, and at each hop any crossing that the answer names. A cart must be
+//! home after exactly the east-west plus north-south distance, on open crossings only.
+use crate::maps;
+use crate::random::Random;
+use grainbodkin_sys::{self as sys, Marker};
+use independent::map::{Crossing, Map};
+
+/// So many pairs of a home and a place are asked about.
+const PAIRS: u64 = 20_000;
+
+/// The journeys' generators begin here, so that they share none with a case.
+const FIRST: u64 = 1 << 40;
+
+#[derive(Default)]
+pub struct Journeys {
+    pub pairs: u64,
+    /// Assured by document 01's first rule too: each offset less than home's distance.
+    pub short_of_it: u64,
+    /// Assured since Req 02 alone: an offset that equals home's distance.
+    pub at_the_distance: u64,
+    pub faults: Vec<String>,
+}
+
+impl Journeys {
+    pub fn print(&self) {
+        println!(
+            "journeys: {} pairs of open crossings; assured {}, of these {} only since an offset equal to home's distance is enough; every cart home by \
+             random hops in the exact count: {}",
+            self.pairs,
+            self.short_of_it + self.at_the_distance,
+            self.at_the_distance,
+            if self.faults.is_empty() { "yes" } else { "NO" }
+        );
+    }
+}
+
+/// A map and its markers, as every call is asked about them, and the label sheet that is lent.
+struct Asked {
+    map: Map,
+    list: Vec<Marker>,
+    labels: Vec<u8>,
+}
+
+impl Asked {
+    fn of(map: Map, rocks: &[Crossing]) -> Asked {
+        let marker = |(i, c): (usize, &Crossing)| Marker {
+            id: i as u16 + 1,
+            x: c.x as u16,
+            y: c.y as u16,
+        };
+        Asked {
+            map,
+            list: rocks.iter().enumerate().map(marker).collect(),
+            labels: vec![0; map.width * map.height],
+        }
+    }
+
+    fn open(&self, c: Crossing) -> bool {
+        self.labels[c.y * self.map.width + c.x] == 0
+    }
+
+    fn label(&mut self) {
+        let (w, h, n) = (self.map.width, self.map.height, self.list.len());
+        let (list, labels) = (self.list.as_ptr(), self.labels.as_mut_ptr());
+        unsafe { sys::bodkin_label(list, n, n, w, h, labels, self.labels.len()) };
+    }
+
+    fn assured(&mut self, home: Crossing, place: Crossing) -> bool {
+        let (w, h, n) = (self.map.width, self.map.height, self.list.len());
+        let (list, labels) = (self.list.as_ptr(), self.labels.as_mut_ptr());
+        let size = self.labels.len();
+        unsafe {
+            sys::bodkin_assured(
+                list, n, n, w, h, home.x, home.y, place.x, place.y, labels, size,
+            )
+        }
+        .assured
+    }
+
+    fn four(&mut self, c: Crossing) -> [usize; 4] {
+        let (w, h, n) = (self.map.width, self.map.height, self.list.len());
+        let (list, labels) = (self.list.as_ptr(), self.labels.as_mut_ptr());
+        let size = self.labels.len();
+        unsafe { sys::bodkin_distances(list, n, n, w, h, c.x, c.y, labels, size) }
+            .four
+            .map(usize::from)
+    }
+
+    /// One hop that the answer names, at random; none at home or at a refusal.
+    fn hop(&mut self, random: &mut Random, home: Crossing, place: Crossing) -> Option<Crossing> {
+        let (w, h, n) = (self.map.width, self.map.height, self.list.len());
+        let (list, labels) = (self.list.as_ptr(), self.labels.as_mut_ptr());
+        let size = self.labels.len();
+        let after = unsafe {
+            sys::bodkin_hop(
+                list, n, n, w, h, home.x, home.y, place.x, place.y, labels, size,
+            )
+        };
+        match after.hops {
+            0 => None,
+            2 if random.percent(50) => Some(Crossing::new(after.a, after.b)),
+            _ => Some(Crossing::new(after.x, after.y)),
+        }
+    }
+
+    /// Whether an offset equals home's distance that way, and so document 01's first rule would have said no.
+    fn at_the_distance(&mut self, home: Crossing, place: Crossing) -> bool {
+        let [east, south, west, north] = self.four(home);
+        let row = if place.x > home.x { east } else { west };
+        let column = if place.y > home.y { north } else { south };
+        place.x != home.x && place.x.abs_diff(home.x) == row
+            || place.y != home.y && place.y.abs_diff(home.y) == column
+    }
+
+    /// The cart's way from the place: what went wrong, if anything did.
+    fn journey(&mut self, random: &mut Random, home: Crossing, place: Crossing) -> Option<String> {
+        let distance = place.x.abs_diff(home.x) + place.y.abs_diff(home.y);
+        let mut at = place;
+        for hops in 0..distance {
+            match self.hop(random, home, at) {
+                Some(next) if self.open(next) => at = next,
+                Some(next) => {
+                    return Some(format!(
+                        "a cart hops from {at:?} onto {next:?}, which is closed"
+                    ))
+                }
+                None => {
+                    return Some(format!(
+                        "a cart is stranded at {at:?} after {hops} of {distance} hops"
+                    ))
+                }
+            }
+        }
+        let home_now = self.hop(random, home, at).is_none() && at == home;
+        (!home_now)
+            .then(|| format!("a cart is at {at:?} after {distance} hops, and home is {home:?}"))
+    }
+}
+
+/// Sends carts home from random places on random maps.
+pub fn run(seed: u64) -> Journeys {
+    let mut seen = Journeys::default();
+    let mut index = FIRST;
+    while seen.pairs < PAIRS {
+        let mut random = Random::of_case(seed, index);
+        index += 1;
+        let (_, map) = maps::size(&mut random);
+        let (_, rocks) = maps::rocks(&mut random, map);
+        let mut asked = Asked::of(map, &rocks);
+        asked.label();
+        let ends = [maps::any(&mut random, map), maps::any(&mut random, map)];
+        if ends.iter().any(|&c| !asked.open(c)) {
+            continue;
+        }
+        seen.pairs += 1;
+        let [home, place] = ends;
+        if !asked.assured(home, place) {
+            continue;
+        }
+        if asked.at_the_distance(home, place) {
+            seen.at_the_distance += 1;
+        } else {
+            seen.short_of_it += 1;
+        }
+        let fault = asked.journey(&mut random, home, place);
+        seen.faults
+            .extend(fault.map(|f| format!("journey {index}: {f}")));
+    }
+    if seen.at_the_distance == 0 {
+        seen.faults
+            .push("no journey began at home's very distance".to_string());
+    }
+    seen
+}
