@@ -18,7 +18,7 @@ use Rattle.drives.specs.declared.Made.{Made}
 use Rattle.drives.specs.Promise.{madeNumber, madeLength, madeState}
 use Rattle.calls.specs.Rules.{Gives, AnEndClosed, assured-rows, hop-rows, region-rows, drive-rows}
 use Rattle.calls.specs.Parts.{before}
-use Rattle.calls.specs.Answers.{no-labelling, no-four, no-assurance, no-hop, LabelsAfter, Numbers, DistancesAfter, HopsNamed, RegionAfter, RouteAfter}
+use Rattle.calls.specs.Answers.{no-labelling, no-four, no-assurance, no-hop, LabelsAfter, LabelNumbers, DistancesAfter, HopsNamed, RegionAfter, RouteAfter}
 use Rattle.calls.specs.declared.Labelling.{Labelling}
 use Rattle.calls.specs.declared.Four.{Four}
 use Rattle.calls.specs.declared.Assurance.{Assurance}
@@ -60,7 +60,7 @@ pub record LabelRest (n w h : ℕ) (s s′ : List ℕ) (r : Labelling) : Type 0 
   pub given : Gives (before n ∷ []) (r .refusal)
   pub labels-after : LabelsAfter (Stones w h s) w h (r .refusal) s s′
   pub refused : ¬ (r .refusal ≡ 0) → r ≡ no-labelling (r .refusal)
-  pub done : r .refusal ≡ 0 → Numbers (Stones w h s) w h r
+  pub done : r .refusal ≡ 0 → LabelNumbers (Stones w h s) w h r
 
 -- the four distances of a crossing
 pub record DistancesRest (n w h x y : ℕ) (s s′ : List ℕ) (r : Four) : Type 0 where

@@ -64,7 +64,7 @@ pub record LabelsAfter (R : ℕ → ℕ → Type 0) (w h n : ℕ) (labels labels
   pub labelled : ¬ Early n → LabelSheet R w h labels′
 
 -- "the numbers of rocks' crossings, shut crossings and groups"
-pub record Numbers (R : ℕ → ℕ → Type 0) (w h : ℕ) (r : Labelling) : Type 0 where
+pub record LabelNumbers (R : ℕ → ℕ → Type 0) (w h : ℕ) (r : Labelling) : Type 0 where
   pub rocks : Count w h (RockOn R w h) (r .rocks)
   pub shut : Count w h (Shut R w h) (r .shut)
   pub groups : Groups w h (Closed R w h) (r .groups)

@@ -22,7 +22,7 @@ use Rattle.calls.specs.Answers.{
   no-map,
   no-bytes,
   LabelsAfter,
-  Numbers,
+  LabelNumbers,
   DistancesAfter,
   HopsNamed,
   RegionAfter,
@@ -59,7 +59,7 @@ pub record LabelCall (m : LentMap) (labels labels′ : List ℕ) (r : Labelling)
   pub given : Gives (Rules.label-table m labels) (r .refusal)
   pub labels-after : LabelsAfter (RocksOf m) (m .width) (m .height) (r .refusal) labels labels′
   pub refused : ¬ (r .refusal ≡ 0) → r ≡ no-labelling (r .refusal)
-  pub done : r .refusal ≡ 0 → Numbers (RocksOf m) (m .width) (m .height) r
+  pub done : r .refusal ≡ 0 → LabelNumbers (RocksOf m) (m .width) (m .height) r
 
 -- distances of one crossing: "an array of four numbers by value"
 pub record DistancesCall (m : LentMap) (x y : ℕ) (labels labels′ : List ℕ) (r : Four) : Type 0 where

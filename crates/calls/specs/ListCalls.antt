@@ -49,7 +49,7 @@ module _ {m : LentMap} {id x y : ℕ} {list′ : List Marker} {r : Counted} (c :
         few = holds (decLt (m .count) most-markers) (λ n. slots (inr (omega arith)));
       }
 
-  -- Every slot past the one that entering takes is as it was, and so is the length.
+  -- Every slot past the one that entering takes is as it was.
   pub enter-rest : (k : ℕ) → m .count < k → slot list′ k ≡ slot (m .list) k
   enter-rest k l = go (ℕ-discrete (r .refusal) 0)
     where
@@ -57,32 +57,18 @@ module _ {m : LentMap} {id x y : ℕ} {list′ : List Marker} {r : Counted} (c :
       go (yes z) = c .done z .list .rest k l
       go (no z) = ap (λ (s : List Marker). slot s k) (c .kept z)
 
-  pub enter-length : length list′ ≡ length (m .list)
-  enter-length = go (ℕ-discrete (r .refusal) 0)
-    where
-      go : Dec (r .refusal ≡ 0) → length list′ ≡ length (m .list)
-      go (yes z) = c .done z .list .size
-      go (no z) = ap length (c .kept z)
-
 module _ {m : LentMap} {id : ℕ} {list′ : List Marker} {r : Counted} (c : ClearCall m id list′ r) where
   -- A list from which something is cleared is well formed.
   pub clear-formed : r .refusal ≡ 0 → Formed m
   clear-formed z = formed-holds (gives-none (Rules.clear-table m id) 0 (r .refusal) (omega arith) (c .given) z .1 .0)
 
-  -- Every slot past the count is as it was, and so is the length.
+  -- Every slot past the count is as it was.
   pub clear-rest : (k : ℕ) → m .count ≤ k → slot list′ k ≡ slot (m .list) k
   clear-rest k l = go (ℕ-discrete (r .refusal) 0)
     where
       go : Dec (r .refusal ≡ 0) → slot list′ k ≡ slot (m .list) k
       go (yes z) = c .done z .list .rest k l
       go (no z) = ap (λ (s : List Marker). slot s k) (c .kept z)
-
-  pub clear-length : length list′ ≡ length (m .list)
-  clear-length = go (ℕ-discrete (r .refusal) 0)
-    where
-      go : Dec (r .refusal ≡ 0) → length list′ ≡ length (m .list)
-      go (yes z) = c .done z .list .size
-      go (no z) = ap length (c .kept z)
 
 -- The lent map's list is reached on its map.
 abbrev pub MapReached : LentMap → Type 0

@@ -1,8 +1,7 @@
--- What stands in the list after a map is read: a well-formed list, whose rocks are exactly the
--- file's.
+-- What stands in the list after a map is read: a well-formed list of the file's markers.
 use mathlib.Core.Path.{_≡_, sym, ap, _∙_}
 use mathlib.Core.List.{List}
-use mathlib.Core.Logic.{_↔_, inl, inr}
+use mathlib.Core.Logic.{inl, inr}
 use Prim.Native.Nat.{ℕ, _+_, _*_, _<_, _≤_}
 use native.Mathlib.Omega.{arith}
 use native.Mathlib.Decide.{decLe}
@@ -12,9 +11,9 @@ use Rattle.field.specs.declared.Marker.{Marker}
 use Rattle.field.specs.Map.{most-markers}
 use Rattle.field.specs.Labels.{blank}
 use Rattle.markers.specs.List.{slot}
-use Rattle.mapfile.specs.File.{FileRock, markersOf}
-use Rattle.mapfile.specs.RockLaws.{raster-crossings, marker-id, marker-on, markers-of}
-use Rattle.calls.specs.Rules.{Formed, markersIn, RocksOf}
+use Rattle.mapfile.specs.File.{markersOf}
+use Rattle.mapfile.specs.RockLaws.{raster-crossings, marker-id, marker-on}
+use Rattle.calls.specs.Rules.{Formed, markersIn}
 use Rattle.calls.specs.RuleLaws.{holds}
 use Rattle.calls.specs.Answers.{MapRead, read-map}
 use Rattle.calls.specs.declared.ReadMap.{ReadMap}
@@ -54,9 +53,6 @@ module _ {file : List ℕ} {list after : List Marker} {r : ReadMap} (t : MapRead
       id-is : (k : ℕ) → k < r .count → slot after k .id ≡ k + 1
       id-is k l = ap (λ (m : Marker). m .id) (slot-is k l) ∙ marker-id (t .bits) (t .map .sides) long k (omega (arith, t .counted))
 
-  -- The markers in use are the map's, and their rocks the file's.
+  -- The markers in use are the map's.
   pub read-markers : markersIn (read-map after r) ≡ markers
   read-markers = ap (take (r .count)) (t .slots) ∙ take-at markers (drop (r .count) list) (r .count) (sym (t .counted))
-
-  pub read-rocks : (x y : ℕ) → RocksOf (read-map after r) x y ↔ FileRock (r .width) (r .height) (t .bits) x y
-  read-rocks x y = rw read-markers (markers-of (t .map) x y)

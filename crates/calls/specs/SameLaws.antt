@@ -7,20 +7,16 @@ use Prim.Native.Nat.{ℕ}
 use native.Mathlib.Omega.{arith}
 use Rattle.field.specs.Labels.{RockOn}
 use Rattle.field.specs.Distances.{Way, Assured}
-use Rattle.field.specs.Workings.SameLaws.{Alike, alike-back, open-same, assured-same, answers-same, has-drive-same, distance-sheet-same, region-sheet-same, driven-same, closed-same, label-sheet-same, shut-same, groups-same, count-alike}
+use Rattle.field.specs.Workings.SameLaws.{Alike, alike-back, open-same, assured-same, answers-same, has-drive-same, distance-sheet-same, region-sheet-same, driven-same, closed-same, shut-same, groups-same, count-alike}
 use Rattle.calls.specs.Rules.{AnEndClosed, NoWay, assured-rows, hop-rows, region-rows, drive-rows}
 use Rattle.calls.specs.RuleLaws.{Reworded, same}
-use Rattle.calls.specs.Answers.{Early, LabelsAfter, Numbers, DistancesAfter, HopsNamed, RegionAfter, RouteAfter}
+use Rattle.calls.specs.Answers.{Early, LabelNumbers, DistancesAfter, HopsNamed, RegionAfter, RouteAfter}
 use Rattle.calls.specs.declared.Labelling.{Labelling}
 use Rattle.calls.specs.declared.Homeward.{Homeward}
 
 -- Rocks.
 module _ (w h : ℕ) {R S : ℕ → ℕ → Type 0} where
-  pub labels-after-same : {n : ℕ} {labels labels′ : List ℕ} → (¬ Early n → Alike (RockOn R w h) (RockOn S w h)) → LabelsAfter R w h n labels labels′
-      → LabelsAfter S w h n labels labels′
-  labels-after-same a l = record { kept = l .kept; labelled = λ f. label-sheet-same w h (a f) (l .labelled f) }
-
-  pub numbers-same : Alike (RockOn R w h) (RockOn S w h) → {r : Labelling} → Numbers R w h r → Numbers S w h r
+  pub numbers-same : Alike (RockOn R w h) (RockOn S w h) → {r : Labelling} → LabelNumbers R w h r → LabelNumbers S w h r
   numbers-same a k =
       record {
         rocks = count-alike w h a (k .rocks);

@@ -87,12 +87,12 @@ module _ (w h : ℕ) (list : List Marker) where
   abbrev pub Distinct : ℕ → Type 0
   Distinct k = (i j : ℕ) → i < j → j < k → slot list i .x ≡ slot list j .x → slot list i .y ≡ slot list j .y → ⊥
 
-  abbrev pub Told : ℕ → ℕ → Type 0
-  Told k n = ((n ≡ k) × Distinct k) ⊎ ((n < k) × Shared list k)
+  abbrev pub MarksTold : ℕ → ℕ → Type 0
+  MarksTold k n = ((n ≡ k) × Distinct k) ⊎ ((n < k) × Shared list k)
 
   -- The next marker's crossing is marked already: it shares it with the marker that is stamped
   -- there.
-  told-again : (k : ℕ) → OnMap (suc k) → 0 < at (drawn k) w (slot list k .x) (slot list k .y) → marks (drawn k) ≤ k → Told (suc k) (marks (drawn (suc k)))
+  told-again : (k : ℕ) → OnMap (suc k) → 0 < at (drawn k) w (slot list k .x) (slot list k .y) → marks (drawn k) ≤ k → MarksTold (suc k) (marks (drawn (suc k)))
   unfolding drawn x-of y-of
   told-again k on m n =
       let p = drawn-is k (λ j l. on j (omega arith)) .sound (slot list k .x) (slot list k .y) (on k (omega arith)) m in
@@ -110,7 +110,7 @@ module _ (w h : ℕ) (list : List Marker) where
       )
 
   -- It is not marked: it makes one mark more.
-  told-new : (k : ℕ) → OnMap (suc k) → at (drawn k) w (slot list k .x) (slot list k .y) ≡ 0 → Told k (marks (drawn k)) → Told (suc k) (marks (drawn (suc k)))
+  told-new : (k : ℕ) → OnMap (suc k) → at (drawn k) w (slot list k .x) (slot list k .y) ≡ 0 → MarksTold k (marks (drawn k)) → MarksTold (suc k) (marks (drawn (suc k)))
   unfolding drawn x-of y-of
   told-new k on m t = go t
     where
@@ -129,7 +129,7 @@ module _ (w h : ℕ) (list : List Marker) where
           let v : slot list i .y ≡ slot list k .y = q ∙ ap (λ (n : ℕ). slot list n .y) e in
           omega (arith, m, s .complete i (omega arith), ap (λ (a : ℕ). at (drawn k) w a (slot list i .y)) u, ap (λ (b : ℕ). at (drawn k) w (slot list k .x) b) v)
 
-      go : Told k (marks (drawn k)) → Told (suc k) (marks (drawn (suc k)))
+      go : MarksTold k (marks (drawn k)) → MarksTold (suc k) (marks (drawn (suc k)))
       go (inl (n, d)) = inl (omega (arith, more), λ i j l b p q. apart d i j l b p q (ℕ-discrete j k))
       go (inr (n, t)) =
           inr (
@@ -145,16 +145,16 @@ module _ (w h : ℕ) (list : List Marker) where
             },
           )
 
-  told-most : {k n : ℕ} → Told k n → n ≤ k
+  told-most : {k n : ℕ} → MarksTold k n → n ≤ k
   told-most (inl t) = omega (arith, t .0)
   told-most (inr t) = omega (arith, t .0)
 
-  pub told : (k : ℕ) → OnMap k → Told k (marks (drawn k))
+  pub told : (k : ℕ) → OnMap k → MarksTold k (marks (drawn k))
   unfolding drawn
   told zero on = inl (zeros-marks (h * w), λ i j l b p q. omega arith)
   told (suc k) on = go (told k (λ j l. on j (omega arith))) (decLt 0 (at (drawn k) w (slot list k .x) (slot list k .y)))
     where
-      go : Told k (marks (drawn k)) → Dec (0 < at (drawn k) w (slot list k .x) (slot list k .y)) → Told (suc k) (marks (drawn (suc k)))
+      go : MarksTold k (marks (drawn k)) → Dec (0 < at (drawn k) w (slot list k .x) (slot list k .y)) → MarksTold (suc k) (marks (drawn (suc k)))
       go t (yes m) = told-again k on m (told-most t)
       go t (no m) = told-new k on (omega arith) t
 
@@ -180,7 +180,7 @@ module _ {w h : ℕ} where
   drawn-apart : (list : List Marker) (count : ℕ) → OnMap w h list count → ¬ Shared list count → marks (drawn w h list count) ≡ count
   drawn-apart list count on n = go (told w h list count on)
     where
-      go : Told w h list count (marks (drawn w h list count)) → marks (drawn w h list count) ≡ count
+      go : MarksTold w h list count (marks (drawn w h list count)) → marks (drawn w h list count) ≡ count
       go (inl t) = t .0
       go (inr t) = absurd (n (t .1))
 

@@ -15,7 +15,7 @@ use Rattle.mapfile.specs.File.{MapFile, FileFault, NoSlot}
 use Rattle.mapfile.specs.RockLaws.{raster-bits, raster-crossings}
 use Rattle.reader.specs.declared.Reading.{Reading}
 use Rattle.reader.specs.declared.Reading.the-variants.{Map, Refused}
-use Rattle.reader.specs.Promise.{Reads, Taken}
+use Rattle.reader.specs.Promise.{Reads, MapTaken}
 use Rattle.chart.specs.Promise.{line-room, most-bytes, Refusal, fault, too-many, Charted, not-taken, shown}
 use Rattle.chart.specs.Parts.{Puts, BitsShown, RefusalLine}
 use Rattle.turning.specs.Turning.{MayTurn}
@@ -26,7 +26,7 @@ map-crossings {file} {bits} {w} {h} m = raster-crossings (m .format) w h (m .bod
 
 -- Each answer of the reader with its own promise: with as many slots as markers may be in use, a
 -- refusal is the file's.
-pub reads-map : {file out : List ℕ} {lent w h count : ℕ} {r : Reading} → Reads file lent out r → r ≡ Map w h count → Taken file lent w h count out
+pub reads-map : {file out : List ℕ} {lent w h count : ℕ} {r : Reading} → Reads file lent out r → r ≡ Map w h count → MapTaken file lent w h count out
 reads-map p e = rw e at p
 
 pub reads-refusal : {file : List ℕ} (out : List ℕ) {n : ℕ} {r : Reading} → Reads file marker-slots out r → r ≡ Refused n → Refusal file n
@@ -42,7 +42,7 @@ pub refusal-text : {file out after : List ℕ} {n end : ℕ} → length file ≤
 refusal-text {n} l f p =
     record { piece = p .piece; right = not-taken n (p .right .digits) l f (p .right .printed) (p .right .is); put = p .put }
 
-module _ {file bits : List ℕ} {lent w h count : ℕ} (t : Taken file lent w h count bits) where
+module _ {file bits : List ℕ} {lent w h count : ℕ} (t : MapTaken file lent w h count bits) where
   -- The bits read can be stamped on a sheet of the map's size.
   pub taken-turn : (sheet : List ℕ) → length sheet ≡ h * w → MayTurn w h bits sheet
   taken-turn sheet size =

@@ -18,7 +18,7 @@ use Rattle.regions.specs.Promise.{Regioned}
 use Rattle.regions.specs.declared.Found.the-variants.{EndClosed, Nowhere, Somewhere}
 use Rattle.drives.specs.declared.Made.the-variants.{Closed, NoDrive, Short, Filled}
 use Rattle.drives.specs.Promise.{Makes}
-use Rattle.drives.specs.Hops.{Written}
+use Rattle.drives.specs.Hops.{DriveWritten}
 
 -- Where the region is refused, so is the drive, by the same number.
 early : {w h : ℕ} {C : ℕ → ℕ → Type 0} {sx sy dx dy : ℕ} (route : List ℕ) (n : ℕ) → Gives (region-rows w h C sx sy dx dy) n → ¬ (n ≡ 0)
@@ -78,7 +78,7 @@ module _ {w h : ℕ} {s : List ℕ} {sx sy dx dy : ℕ} {g g′ : List ℕ} wher
 
     -- What is written is the chooser's drive.
     pub makes-drive : {z n z′ : ℕ} {route route′ : List ℕ} → HasDrive w h (Marked s w h) sx sy dx dy → n ≡ dist sx sy dx dy + 1 → n ≤ length route
-        → Written w h g′ sx sy dx dy z route route′ z′ → Makes w h s sx sy dx dy z g g′ route route′ (Filled n z′)
+        → DriveWritten w h g′ sx sy dx dy z route route′ z′ → Makes w h s sx sy dx dy z g g′ route route′ (Filled n z′)
     makes-drive {z} {n} {z′} {route} v e l k =
         record {
           given = later route _ (inr (λ b. omega arith, refl));

@@ -20,9 +20,9 @@ use Rattle.field.specs.Workings.RegionLaws.{has-drive-in, region-sheet-draws}
 use Rattle.field.specs.Workings.ChooserLaws.{candidate-toward, candidate-some, chosen-candidate}
 use Rattle.field.specs.Workings.ChoosingLaws.{chosen-looks}
 use Rattle.drives.specs.declared.chooser.Choice.{Choice}
-use Rattle.regions.specs.Promise.{RegionAsked}
-use Rattle.regions.specs.Passes.{Looked}
-use Rattle.drives.specs.Hops.{Choosable, Chose, Steered, Written}
+use Rattle.regions.specs.Promise.{MayFind}
+use Rattle.regions.specs.Passes.{MayPass}
+use Rattle.drives.specs.Hops.{Choosable, Chose, Steered, DriveWritten}
 use Rattle.regions.proofs.LookLaws.{east-west-tells, north-south-tells}
 
 -- In the region, and not at d, one of the two tests for a candidate is passed.
@@ -82,7 +82,7 @@ module _ (w h : ℕ) (g : List ℕ) (sx sy dx dy z : ℕ) where
     abbrev C : ℕ → ℕ → Type 0
     C = Marked (s .steered .closed) w h
 
-    pub onward-looked : Looked w h g dx dy x y
+    pub onward-looked : MayPass w h g dx dy x y
     onward-looked =
         let o = s .steered .looked in record { sides = o .sides; size = o .size; from = o .from; to = s .within .on }
 
@@ -116,7 +116,7 @@ module _ (w h : ℕ) (g : List ℕ) (sx sy dx dy z : ℕ) where
           after = sym (d .1) ∙ s .after;
         }
 
-    pub onward-end : dist sx sy dx dy ≤ k → (v : ℕ) → v ≡ number w x y → Written w h g sx sy dx dy z route (set route′ k v) state
+    pub onward-end : dist sx sy dx dy ≤ k → (v : ℕ) → v ≡ number w x y → DriveWritten w h g sx sy dx dy z route (set route′ k v) state
     onward-end l v i =
         let m : k ≡ dist sx sy dx dy = omega (arith, s .left) in
         let d = drive-end (dist x y dx dy) x y state (omega (arith, s .left)) in
@@ -135,7 +135,7 @@ gap-lt : {a b m : ℕ} → a < m → b < m → gap a b < m
 unfolding gap
 gap-lt l r = omega arith
 
-pub dist-small : {w h sx sy dx dy : ℕ} {s g : List ℕ} → RegionAsked w h s g sx sy dx dy → dist sx sy dx dy + 1 < 65536
+pub dist-small : {w h sx sy dx dy : ℕ} {s g : List ℕ} → MayFind w h s g sx sy dx dy → dist sx sy dx dy + 1 < 65536
 unfolding side
 dist-small k =
     omega (arith, k .sides .most-w, k .sides .most-h, gap-lt (k .from .in-x) (k .to .in-x), gap-lt (k .from .in-y) (k .to .in-y))

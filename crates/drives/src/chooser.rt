@@ -1,7 +1,7 @@
 // The chooser: its choice at a crossing, and the drive that it makes.
 ghost use mathlib.Core.Path.{_≡_};
 ghost use Rattle.field.specs.Map.{gap};
-ghost use Rattle.drives.specs.Hops.{Choosable, Chose, Steered, Written};
+ghost use Rattle.drives.specs.Hops.{Choosable, Chose, Steered, DriveWritten};
 use super::draw;
 use regions::looks::east_west;
 use regions::looks::north_south;
@@ -88,7 +88,7 @@ pub fn write_drive(
     route: &mut [u16],
 ) -> u32
     requires { ⌜ Steered w h (now g) sx sy dx dy (now route) ⌝ }
-    ensures { λ r. ⌜ Written w h (now (g .entry)) sx sy dx dy z (now (route .entry)) (now (route .exit)) r ⌝ }
+    ensures { λ r. ⌜ DriveWritten w h (now (g .entry)) sx sy dx dy z (now (route .entry)) (now (route .exit)) r ⌝ }
 {
     let n = offset(sx, dx) + offset(sy, dy);
     let mut x = sx;

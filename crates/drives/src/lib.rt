@@ -4,7 +4,7 @@ mod chooser; // chooser.rt: the choice at a crossing, and a drive written down
 ghost use mathlib.Core.Path.{_≡_};
 ghost use Prim.Native.Nat.{_*_, _%_};
 ghost use Rattle.field.specs.Chooser.{drawn};
-ghost use Rattle.regions.specs.Promise.{RegionAsked};
+ghost use Rattle.regions.specs.Promise.{MayFind};
 ghost use Rattle.drives.specs.Promise.{Makes};
 use regions::Found;
 
@@ -48,7 +48,7 @@ pub fn fill(
     g: &mut [u8],
     route: &mut [u16],
 ) -> Made
-    requires { ⌜ RegionAsked w h (now s) (now g) sx sy dx dy ⌝ }
+    requires { ⌜ MayFind w h (now s) (now g) sx sy dx dy ⌝ }
     ensures { λ r. ⌜ Makes w h (now (s .entry)) sx sy dx dy z (now (g .entry)) (now (g .exit)) (now (route .entry)) (now (route .exit)) r ⌝ }
 {
     let found = regions::region(s, w, h, sx, sy, dx, dy, g);

@@ -12,7 +12,7 @@ use Rattle.field.specs.Workings.MarkCount.{marks}
 use Rattle.writer.specs.Promise.{Asked, Writes, wroteNumber}
 use Rattle.writer.specs.declared.Wrote.{Wrote}
 use Rattle.writer.specs.declared.Wrote.the-variants.{Bytes, Short}
-use Rattle.reader.specs.Promise.{readNumber, Taken}
+use Rattle.reader.specs.Promise.{readNumber, MapTaken}
 use Rattle.reader.specs.declared.Reading.{Reading}
 use Rattle.reader.specs.declared.Reading.the-variants.{Map, Refused}
 use Rattle.calls.specs.Answers.{no-map, no-bytes, ReadFault}
@@ -51,7 +51,7 @@ readMap (Refused n) = no-map (readNumber (Refused n))
 -- the map, whose bits are the first of the bytes handed back.
 pub data ReadFirst (file : List ℕ) (lent : ℕ) (out : List ℕ) (r : ReadMap) : Type 0 where
   refused : (n : ℕ) → ReadFault file lent n → r ≡ readMap (Refused n) → ReadFirst file lent out r
-  found : (w h count : ℕ) → Taken file lent w h count out → r ≡ readMap (Map w h count) → ReadFirst file lent out r
+  found : (w h count : ℕ) → MapTaken file lent w h count out → r ≡ readMap (Map w h count) → ReadFirst file lent out r
 
 -- What the next rock asks: there is one at `from` or after it.
 pub record RockAhead (bits : List ℕ) (from : ℕ) : Type 0 where

@@ -17,11 +17,11 @@ use Rattle.exchange.specs.Promise.{RockAhead, NextRock, MayMark}
 use Rattle.layer.specs.Files.{MapBits, MayPut}
 
 -- k rocks stand before the i-th bit.
-pub record Passed (bits : List ℕ) (i k : ℕ) : Type 0 where
+pub record RocksPassed (bits : List ℕ) (i k : ℕ) : Type 0 where
   pub within : i ≤ length bits
   pub rocks : ones (take i bits) ≡ k
 
-pub passed-none : (bits : List ℕ) → Passed bits 0 0
+pub passed-none : (bits : List ℕ) → RocksPassed bits 0 0
 unfolding ones
 passed-none bits = record { within = zero-le; rocks = refl }
 
@@ -40,17 +40,17 @@ module _ (bits : List ℕ) (i : ℕ) (l : i < length bits) where
   one-rock zero n = absurd (n refl)
   one-rock (suc b) n = refl
 
-  passed-bare : {k : ℕ} → getD bits i 0 ≡ 0 → Passed bits i k → Passed bits (i + 1) k
+  passed-bare : {k : ℕ} → getD bits i 0 ≡ 0 → RocksPassed bits i k → RocksPassed bits (i + 1) k
   passed-bare e p = record { within = omega arith; rocks = omega (arith, more, one-bare (getD bits i 0) e, p .rocks) }
 
-  passed-rock : {k : ℕ} → ¬ (getD bits i 0 ≡ 0) → Passed bits i k → Passed bits (i + 1) (k + 1)
+  passed-rock : {k : ℕ} → ¬ (getD bits i 0 ≡ 0) → RocksPassed bits i k → RocksPassed bits (i + 1) (k + 1)
   passed-rock n p = record { within = omega arith; rocks = omega (arith, more, one-rock (getD bits i 0) n, p .rocks) }
 
 -- Past bits that are no rocks.
-passed-on : {bits : List ℕ} {k : ℕ} (i d : ℕ) → i + d ≤ length bits → ((j : ℕ) → i ≤ j → j < i + d → getD bits j 0 ≡ 0) → Passed bits i k → Passed bits (i + d) k
-passed-on {bits} {k} i zero l z p = subst (λ (n : ℕ). Passed bits n k) (omega arith) p
+passed-on : {bits : List ℕ} {k : ℕ} (i d : ℕ) → i + d ≤ length bits → ((j : ℕ) → i ≤ j → j < i + d → getD bits j 0 ≡ 0) → RocksPassed bits i k → RocksPassed bits (i + d) k
+passed-on {bits} {k} i zero l z p = subst (λ (n : ℕ). RocksPassed bits n k) (omega arith) p
 passed-on {bits} {k} i (suc d) l z p =
-    subst (λ (n : ℕ). Passed bits n k) (omega arith)
+    subst (λ (n : ℕ). RocksPassed bits n k) (omega arith)
     (passed-bare bits (i + d) (omega arith) (z (i + d) (omega arith) (omega arith)) (passed-on i d (omega arith) (λ j a b. z j a (omega arith)) p))
 
 -- Where not all rocks are passed, one is ahead.
@@ -83,7 +83,7 @@ rock-slot w h n k (zero ∷ bits) (suc at) l r = rock-slot w h n (k + 1) bits at
 rock-slot w h n k (suc b ∷ bits) (suc at) l r = rock-slot w h (n + 1) (k + 1) bits at (omega arith) r ∙ ap₂ (markerAt w h) (omega arith) (omega arith)
 
 -- The bits of a map, at the front of the bytes: the next rock past k of them.
-module _ {w h count : ℕ} {bits : List ℕ} (c : MapBits w h count bits) {i k : ℕ} (less : k < count) (p : Passed (take (h * w) bits) i k) where
+module _ {w h count : ℕ} {bits : List ℕ} (c : MapBits w h count bits) {i k : ℕ} (less : k < count) (p : RocksPassed (take (h * w) bits) i k) where
   map-length : length (take (h * w) bits) ≡ h * w
   map-length = length-take-le (h * w) bits (c .all)
 
@@ -117,15 +117,15 @@ module _ {w h count : ℕ} {bits : List ℕ} (c : MapBits w h count bits) {i k :
     is-rock : ¬ (getD (take (h * w) bits) at 0 ≡ 0)
     is-rock e = next .rock (sym (map-bit at next-below) ∙ e)
 
-    upto : Passed (take (h * w) bits) at k
+    upto : RocksPassed (take (h * w) bits) at k
     upto = go (at - i) (omega (arith, next .ahead))
       where
-        go : (d : ℕ) → i + d ≡ at → Passed (take (h * w) bits) at k
+        go : (d : ℕ) → i + d ≡ at → RocksPassed (take (h * w) bits) at k
         go d e =
-            subst (λ (n : ℕ). Passed (take (h * w) bits) n k) e
+            subst (λ (n : ℕ). RocksPassed (take (h * w) bits) n k) e
             (passed-on i d (omega (arith, inside)) (λ j a b. map-bit j (omega (arith, next-below)) ∙ next .first j a (omega arith)) p)
 
-    pub passed-next : Passed (take (h * w) bits) (at + 1) (k + 1)
+    pub passed-next : RocksPassed (take (h * w) bits) (at + 1) (k + 1)
     passed-next = passed-rock (take (h * w) bits) at inside is-rock upto
 
     pub may-mark : MayMark w h at k

@@ -12,7 +12,7 @@ use Rattle.markers.specs.Laws.Rocks.{rock-stands, stands-rock}
 use Rattle.markers.specs.Laws.Stamping.{Stamping}
 use Rattle.records.specs.Promise.{StampedWith}
 use Rattle.calls.specs.Rules.{LentMap, Formed, Shared}
-use Rattle.calls.specs.Sharing.{x-of, y-of, drawn, drawn-is, drawn-stands, stands-drawn, Told, told, distinct}
+use Rattle.calls.specs.Sharing.{x-of, y-of, drawn, drawn-is, drawn-stands, stands-drawn, MarksTold, told, distinct}
 
 module _ {m : LentMap} (sheet : List ℕ) (formed : Formed m) (stamped : StampedWith (m .width) (m .height) (m .list) (m .count) sheet) where
   -- The sheet on which the markers in use are stamped one after the other.
@@ -49,13 +49,13 @@ module _ {m : LentMap} (sheet : List ℕ) (formed : Formed m) (stamped : Stamped
   pub marks-apart : marks sheet ≡ m .count → ¬ Shared (m .list) (m .count)
   marks-apart e = go (told (m .width) (m .height) (m .list) (m .count) (formed .on))
     where
-      go : Told (m .width) (m .height) (m .list) (m .count) (marks one-by-one) → ¬ Shared (m .list) (m .count)
+      go : MarksTold (m .width) (m .height) (m .list) (m .count) (marks one-by-one) → ¬ Shared (m .list) (m .count)
       go (inl t) = distinct (m .width) (m .height) (m .list) (t .1)
       go (inr t) = absurd (omega (arith, t .0, sheet-marks))
 
   pub marks-shared : ¬ (marks sheet ≡ m .count) → Shared (m .list) (m .count)
   marks-shared e = go (told (m .width) (m .height) (m .list) (m .count) (formed .on))
     where
-      go : Told (m .width) (m .height) (m .list) (m .count) (marks one-by-one) → Shared (m .list) (m .count)
+      go : MarksTold (m .width) (m .height) (m .list) (m .count) (marks one-by-one) → Shared (m .list) (m .count)
       go (inl t) = absurd (e (sheet-marks ∙ t .0))
       go (inr t) = t .1

@@ -25,7 +25,7 @@ use Rattle.mapfile.specs.File.{
   no-raster,
   NoSlot,
 }
-use Rattle.reader.specs.Promise.{Taken, Reads}
+use Rattle.reader.specs.Promise.{MapTaken, Reads}
 use Rattle.raster.specs.RasterParts.{RasterIn, ReadAs}
 use Rattle.raster.specs.declared.Judged.{Judged}
 use Rattle.reader.specs.ReadingParts.{

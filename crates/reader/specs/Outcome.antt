@@ -11,7 +11,7 @@ use Rattle.field.specs.Map.{most-markers}
 use Rattle.field.specs.Refusals.{no-slot}
 use Rattle.mapfile.specs.File.{MapFile, markersOf, FileFault, NoSlot}
 use Rattle.mapfile.specs.FileLaws.{map-file-one, fault-one, fault-no-map}
-use Rattle.reader.specs.Promise.{Taken, Reads}
+use Rattle.reader.specs.Promise.{MapTaken, Reads}
 use Rattle.reader.specs.declared.Reading.{Reading}
 use Rattle.reader.specs.declared.Reading.the-variants.{Map, Refused}
 
@@ -24,7 +24,7 @@ abbrev Faulty : List ℕ → ℕ → ℕ → Type 0
 Faulty file lent n = FileFault file n ⊎ (NoSlot file lent × (n ≡ no-slot))
 
 module _ {file : List ℕ} {lent : ℕ} where
-  taken-one : {w h count w′ h′ count′ : ℕ} {out out′ : List ℕ} → Taken file lent w h count out → Taken file lent w′ h′ count′ out′
+  taken-one : {w h count w′ h′ count′ : ℕ} {out out′ : List ℕ} → MapTaken file lent w h count out → MapTaken file lent w′ h′ count′ out′
       → Map w h count ≡ Map w′ h′ count′
   taken-one {w} {h} {count} {w′} {h′} {count′} a b =
       let e = map-file-one (a .map) (b .map) in
@@ -34,12 +34,12 @@ module _ {file : List ℕ} {lent : ℕ} where
       cc
 
   -- The bits of one map are the same.
-  pub taken-bits : {w h count w′ h′ count′ : ℕ} {out out′ : List ℕ} → Taken file lent w h count out → Taken file lent w′ h′ count′ out′
+  pub taken-bits : {w h count w′ h′ count′ : ℕ} {out out′ : List ℕ} → MapTaken file lent w h count out → MapTaken file lent w′ h′ count′ out′
       → take (h * w) out ≡ take (h′ * w′) out′
   taken-bits a b = map-file-one (a .map) (b .map) .2
 
   -- Rocks that find a slot each do not pass the list or the limit.
-  taken-not-refused : {w h count n : ℕ} {out : List ℕ} → Taken file lent w h count out → ¬ Faulty file lent n
+  taken-not-refused : {w h count n : ℕ} {out : List ℕ} → MapTaken file lent w h count out → ¬ Faulty file lent n
   taken-not-refused a (inl f) = fault-no-map f (a .map)
   taken-not-refused {w} {h} {count} {n} {out} a (inr o) = over (ap length (map-markers (a .map) (o .0 .map))) (o .0 .many)
     where

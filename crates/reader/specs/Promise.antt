@@ -18,7 +18,7 @@ readNumber (Refused n) = n
 
 -- A map for whose rocks there is a slot each: its bits, in raster order, are the first h × w of the
 -- bytes handed back.
-pub record Taken (file : List ℕ) (lent w h count : ℕ) (out : List ℕ) : Type 0 where
+pub record MapTaken (file : List ℕ) (lent w h count : ℕ) (out : List ℕ) : Type 0 where
   pub map : MapFile file w h (take (h * w) out)
   pub counted : count ≡ length (markersOf w h (take (h * w) out))
   pub within : count ≤ lent
@@ -26,5 +26,5 @@ pub record Taken (file : List ℕ) (lent w h count : ℕ) (out : List ℕ) : Typ
 
 -- A refusal is the file's fault, or 7 where the map's rocks find no slot.
 abbrev pub Reads : List ℕ → ℕ → List ℕ → Reading → Type 0
-Reads file lent out (Map w h count) = Taken file lent w h count out
+Reads file lent out (Map w h count) = MapTaken file lent w h count out
 Reads file lent out (Refused n) = FileFault file n ⊎ (NoSlot file lent × (n ≡ no-slot))

@@ -16,7 +16,7 @@ use Rattle.field.specs.Workings.Sheet.{Marked, bit, lit}
 use Rattle.field.specs.Workings.Marks.{lit-marked, marked-lit, or-right}
 use Rattle.field.specs.Workings.Looking.{hopTo}
 use Rattle.field.specs.Workings.Reaching.{eastWestIn, northSouthIn}
-use Rattle.regions.specs.Passes.{Looked, backed}
+use Rattle.regions.specs.Passes.{MayPass, backed}
 use Rattle.regions.proofs.WayLaws.{hop-lt}
 
 -- A mark on the map, as a test.
@@ -41,7 +41,7 @@ pub north-south-tells : (g : List ℕ) (w h ey x y : ℕ) → ((y ≢ ey) × Mar
 unfolding northSouthIn
 north-south-tells g w h ey x y = off-looks _ (marked-test g w h x (hopTo y ey)) y ey
 
-module _ {w h ex ey x y : ℕ} {g : List ℕ} (k : Looked w h g ex ey x y) where
+module _ {w h ex ey x y : ℕ} {g : List ℕ} (k : MayPass w h g ex ey x y) where
   -- The hop towards an end stays on the map.
   pub row-hop-on : ¬ (x ≡ ex) → On w h (hopTo x ex) y
   row-hop-on n = record { in-x = hop-lt n (k .to .in-x) (k .from .in-x); in-y = k .to .in-y }

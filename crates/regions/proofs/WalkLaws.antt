@@ -12,8 +12,8 @@ use lib.ListN.{set}
 use Rattle.field.specs.Map.{On, number, at, gap}
 use Rattle.field.specs.Workings.Looking.{hopTo}
 use Rattle.field.specs.Workings.GridLaws.{Toward, along-row, along-column, gap-none}
-use Rattle.regions.specs.Promise.{RegionAsked}
-use Rattle.regions.specs.Passes.{Looked, OnWay, InRow, Spanned, backed, Pass}
+use Rattle.regions.specs.Promise.{MayFind}
+use Rattle.regions.specs.Passes.{MayPass, OnWay, InRow, Spanned, backed, Pass}
 use Rattle.regions.proofs.WayLaws.{way-start, way-lt, way-one, way-hop, way-farther, back-nearer}
 use Rattle.regions.proofs.PassLaws.{Follows, pass-none, pass-one, pass-over, pass-from, pass-then}
 
@@ -40,7 +40,7 @@ pub record AtRow (w h ex ey fx fy : ℕ) (v : ℕ → ℕ → ℕ) (g g′ : Lis
   pub done : Pass w h ex ey (RowsTo ex ey fx fy (gap ey y)) v g g′
 
 -- A call over two sheets is also one over the region sheet alone.
-pub asked-looked : {w h ex ey fx fy : ℕ} {s g : List ℕ} → RegionAsked w h s g ex ey fx fy → Looked w h g ex ey fx fy
+pub asked-looked : {w h ex ey fx fy : ℕ} {s g : List ℕ} → MayFind w h s g ex ey fx fy → MayPass w h g ex ey fx fy
 asked-looked k = record { sides = k .sides; size = k .region; from = k .from; to = k .to }
 
 -- A hop towards an end brings neither offset up.
@@ -69,7 +69,7 @@ module _ (w h ex ey fx : ℕ) where
       record { across = way-start ex fx; done = pass-none w h ex ey _ v g (λ a b p. omega (arith, p .behind, gap-none {a = ex} {b = ex} refl)) }
 
   -- The column that the walk has come to is on the map, and not passed yet.
-  pub row-looked : {x y : ℕ} {v : ℕ → ℕ → ℕ} {g g₁ : List ℕ} → Looked w h g ex ey fx y → InRowAt w h ex ey fx y v g g₁ x → Looked w h g₁ ex ey x y
+  pub row-looked : {x y : ℕ} {v : ℕ → ℕ → ℕ} {g g₁ : List ℕ} → MayPass w h g ex ey fx y → InRowAt w h ex ey fx y v g g₁ x → MayPass w h g₁ ex ey x y
   row-looked k s =
       record {
         sides = k .sides;
@@ -83,11 +83,11 @@ module _ (w h ex ey fx : ℕ) where
 
   module _ {x y : ℕ} {v : ℕ → ℕ → ℕ} {g g₁ g₂ : List ℕ} (u : ℕ) where
     -- Column x is settled; the walk goes on to the next column, or is at its end.
-    settled : Looked w h g₁ ex ey x y → u ≡ v x y → InRowAt w h ex ey fx y v g g₁ x
+    settled : MayPass w h g₁ ex ey x y → u ≡ v x y → InRowAt w h ex ey fx y v g g₁ x
         → g₂ ≡ set g₁ (number w x y) (cond (backed g₁ w h ex ey x y) u 0) → Pass w h ex ey (RowTo ex fx (gap ex x + 1) y) v g g₂
     settled k f s e = pass-then w h ex ey (one-follows (s .across)) (s .done) (pass-one w h ex ey v g₁ g₂ (k .size) (k .to) (rw (← f) e))
 
-    pub row-again : Looked w h g₁ ex ey x y → u ≡ v x y → InRowAt w h ex ey fx y v g g₁ x
+    pub row-again : MayPass w h g₁ ex ey x y → u ≡ v x y → InRowAt w h ex ey fx y v g g₁ x
         → g₂ ≡ set g₁ (number w x y) (cond (backed g₁ w h ex ey x y) u 0) → ¬ (x ≡ fx) → (x′ : ℕ) → x′ ≡ hopTo x fx
         → InRowAt w h ex ey fx y v g g₂ x′
     row-again k f s e n x′ i =
@@ -96,7 +96,7 @@ module _ (w h ex ey fx : ℕ) where
           done = rw (i, way-farther (s .across) n) (settled k f s e);
         }
 
-    pub row-end : Looked w h g₁ ex ey x y → u ≡ v x y → InRowAt w h ex ey fx y v g g₁ x
+    pub row-end : MayPass w h g₁ ex ey x y → u ≡ v x y → InRowAt w h ex ey fx y v g g₁ x
         → g₂ ≡ set g₁ (number w x y) (cond (backed g₁ w h ex ey x y) u 0) → x ≡ fx → Pass w h ex ey (InRow ex fx y) v g g₂
     row-end k f s e i =
         pass-over w h ex ey (λ a b p. record { across = p .across; row = p .row })
@@ -120,7 +120,7 @@ module _ (w h ex ey fx fy : ℕ) where
       go a b r (no l) = inr (record { across = r .across; row = way-one (r .along) s (omega (arith, r .behind)) })
 
   -- The row that the walk has come to is on the map.
-  pub rows-looked : {y : ℕ} {v : ℕ → ℕ → ℕ} {g g₁ : List ℕ} → Looked w h g ex ey fx fy → AtRow w h ex ey fx fy v g g₁ y → Looked w h g₁ ex ey fx y
+  pub rows-looked : {y : ℕ} {v : ℕ → ℕ → ℕ} {g g₁ : List ℕ} → MayPass w h g ex ey fx fy → AtRow w h ex ey fx fy v g g₁ y → MayPass w h g₁ ex ey fx y
   rows-looked k s =
       record {
         sides = k .sides;

@@ -13,7 +13,7 @@ use Rattle.field.specs.Workings.Reaching.{eastWestIn, northSouthIn}
 
 -- A map within the limits, a sheet of it, and two places: the end that a pass starts from, and one
 -- more.
-pub record Looked (w h : ℕ) (g : List ℕ) (ex ey x y : ℕ) : Type 0 where
+pub record MayPass (w h : ℕ) (g : List ℕ) (ex ey x y : ℕ) : Type 0 where
   pub sides : Sides w h
   pub size : length g ≡ h * w
   pub from : On w h ex ey

@@ -12,7 +12,7 @@ use Rattle.regions.specs.declared.Found.{Found}
 use Rattle.regions.specs.declared.Found.the-variants.{EndClosed, Nowhere, Somewhere}
 
 -- A map within the limits, a sheet of its closed crossings and one for the region, and two places.
-pub record RegionAsked (w h : ℕ) (s g : List ℕ) (sx sy dx dy : ℕ) : Type 0 where
+pub record MayFind (w h : ℕ) (s g : List ℕ) (sx sy dx dy : ℕ) : Type 0 where
   pub sides : Sides w h
   pub size : length s ≡ h * w
   pub region : length g ≡ h * w

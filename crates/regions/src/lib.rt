@@ -2,7 +2,7 @@
 pub mod looks; // looks.rt: looks at a sheet of marks
 mod passes; // passes.rt: the two passes that make the region
 
-ghost use Rattle.regions.specs.Promise.{RegionAsked, Regioned};
+ghost use Rattle.regions.specs.Promise.{MayFind, Regioned};
 
 // What asking for the region finds: an end closed (8), no shortest drive (9), or some.
 pub enum Found {
@@ -25,7 +25,7 @@ pub fn region(
     dy: usize,
     g: &mut [u8],
 ) -> Found
-    requires { ⌜ RegionAsked w h (now s) (now g) sx sy dx dy ⌝ }
+    requires { ⌜ MayFind w h (now s) (now g) sx sy dx dy ⌝ }
     ensures { λ r. ⌜ Regioned w h (now (s .entry)) sx sy dx dy (now (g .entry)) (now (g .exit)) r ⌝ }
 {
     let i = sheets::number_of(w, h, sx, sy);

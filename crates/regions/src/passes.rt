@@ -5,15 +5,15 @@ ghost use mathlib.Core.Path.{_≡_};
 ghost use mathlib.Core.Bool.{cond};
 ghost use lib.ListN.{set};
 ghost use Rattle.field.specs.Map.{number, at};
-ghost use Rattle.regions.specs.Promise.{RegionAsked};
-ghost use Rattle.regions.specs.Passes.{Looked, InRow, Spanned, backed, Pass, free};
+ghost use Rattle.regions.specs.Promise.{MayFind};
+ghost use Rattle.regions.specs.Passes.{MayPass, InRow, Spanned, backed, Pass, free};
 use super::looks::has_back;
 use sheets::hop;
 use sheets::number_of;
 
 // Sets (x, y) to v where it is (ex, ey) or has a mark one hop nearer it, and else to 0.
 fn settle(w: usize, h: usize, ex: usize, ey: usize, x: usize, y: usize, v: u8, g: &mut [u8])
-    requires { ⌜ Looked w h (now g) ex ey x y ⌝ }
+    requires { ⌜ MayPass w h (now g) ex ey x y ⌝ }
     ensures { λ _. ⌜ now (g .exit) ≡ set (now (g .entry)) (number w x y) (cond (backed (now (g .entry)) w h ex ey x y) v 0) ⌝ }
 {
     let i = number_of(w, h, x, y);
@@ -26,7 +26,7 @@ fn settle(w: usize, h: usize, ex: usize, ey: usize, x: usize, y: usize, v: u8, g
 
 // 1 where (x, y) is open, and else 0.
 fn free_at(s: &[u8], w: usize, h: usize, x: usize, y: usize) -> u8
-    requires { ⌜ Looked w h (now s) x y x y ⌝ }
+    requires { ⌜ MayPass w h (now s) x y x y ⌝ }
     ensures { λ r. ⌜ r ≡ free (now (s .entry)) w x y ⌝ }
 {
     let i = number_of(w, h, x, y);
@@ -38,7 +38,7 @@ fn free_at(s: &[u8], w: usize, h: usize, x: usize, y: usize) -> u8
 
 // The pass from s in row y: a mark at every open crossing that is backed.
 fn spread_row(s: &[u8], w: usize, h: usize, ex: usize, ey: usize, fx: usize, y: usize, g: &mut [u8])
-    requires { ⌜ RegionAsked w h (now s) (now g) ex ey fx y ⌝ }
+    requires { ⌜ MayFind w h (now s) (now g) ex ey fx y ⌝ }
     ensures { λ _. ⌜ Pass w h ex ey (InRow ex fx y) (free (now (s .entry)) w) (now (g .entry)) (now (g .exit)) ⌝ }
 {
     let mut x = ex;
@@ -62,7 +62,7 @@ pub fn spread(
     fy: usize,
     g: &mut [u8],
 )
-    requires { ⌜ RegionAsked w h (now s) (now g) ex ey fx fy ⌝ }
+    requires { ⌜ MayFind w h (now s) (now g) ex ey fx fy ⌝ }
     ensures { λ _. ⌜ Pass w h ex ey (Spanned ex ey fx fy) (free (now (s .entry)) w) (now (g .entry)) (now (g .exit)) ⌝ }
 {
     let mut y = ey;
@@ -77,7 +77,7 @@ pub fn spread(
 
 // The pass from d in row y: a mark stays where it is backed.
 fn sift_row(w: usize, h: usize, ex: usize, ey: usize, fx: usize, y: usize, g: &mut [u8])
-    requires { ⌜ Looked w h (now g) ex ey fx y ⌝ }
+    requires { ⌜ MayPass w h (now g) ex ey fx y ⌝ }
     ensures { λ _. ⌜ Pass w h ex ey (InRow ex fx y) (at (now (g .entry)) w) (now (g .entry)) (now (g .exit)) ⌝ }
 {
     let mut x = ex;
@@ -94,7 +94,7 @@ fn sift_row(w: usize, h: usize, ex: usize, ey: usize, fx: usize, y: usize, g: &m
 
 // The pass from d: a mark of the rectangle stays where it is backed.
 pub fn sift(w: usize, h: usize, ex: usize, ey: usize, fx: usize, fy: usize, g: &mut [u8])
-    requires { ⌜ Looked w h (now g) ex ey fx fy ⌝ }
+    requires { ⌜ MayPass w h (now g) ex ey fx fy ⌝ }
     ensures { λ _. ⌜ Pass w h ex ey (Spanned ex ey fx fy) (at (now (g .entry)) w) (now (g .entry)) (now (g .exit)) ⌝ }
 {
     let mut y = ey;

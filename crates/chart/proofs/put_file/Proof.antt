@@ -5,7 +5,7 @@ use mathlib.Core.Path.{sym}
 use lib.Seq.{length-take-le}
 use Rattle.field.specs.Map.{Sides}
 use Rattle.field.specs.Limits.{marker-slots, crossings-few, most-crossings-is}
-use Rattle.reader.specs.Promise.{Taken}
+use Rattle.reader.specs.Promise.{MapTaken}
 use Rattle.chart.proofs.Reading.{reads-map, reads-refusal, refusal-text, taken-turn, map-text, text-few}
 use borrow.Author.Needs.{needs}
 use Rattle.chart.proofs.put_file.Statement.{statement}
@@ -24,7 +24,7 @@ refused c = c .before .before .before
 -- The map that was read.
 taken : (c : tie.After-reading) →
     let m = c .reading .given .0 in
-    Taken (start (answered c) .args .src .now) marker-slots (m .0) (m .1 .0) (m .1 .1 .0) (answered c .read .last .1 .1 .0)
+    MapTaken (start (answered c) .args .src .now) marker-slots (m .0) (m .1 .0) (m .1 .1 .0) (answered c .read .last .1 .1 .0)
 taken c = reads-map (answered c .read .ensures) (c .reading .given .1)
 
 sides : (c : tie.After-reading) → Sides (c .reading .given .0 .0) (c .reading .given .0 .1 .0)

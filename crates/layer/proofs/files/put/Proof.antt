@@ -16,7 +16,7 @@ use Rattle.mapfile.specs.MarkerLaws.{markerAt}
 use Rattle.exchange.specs.Promise.{RockAhead, NextRock}
 use Rattle.layer.specs.Files.{MapBits, MayPut, putIn}
 use Rattle.layer.specs.Reading.{put-length, put-more}
-use Rattle.layer.specs.Putting.{Passed, passed-none, rock-ahead, passed-next, may-mark, next-slot, put-had}
+use Rattle.layer.specs.Putting.{RocksPassed, passed-none, rock-ahead, passed-next, may-mark, next-slot, put-had}
 use Rattle.exchange.proofs.next_rock as rock
 use Rattle.exchange.proofs.next_rock.Symbol as rock-def
 use Rattle.exchange.proofs.next_rock.Symbol.{name as #rock}
@@ -101,7 +101,7 @@ module _ {M : Type 1} (𝓤 : URA M) (H : Heap 𝓤) (A : Atoms 𝓤) (W : Given
       (known-rock : Triple 𝓤 (𝓣 .C #rock) (Promised 𝓤 H A rock.ended RockC)) (known-mark : Triple 𝓤 (𝓣 .C #mark) (Promised 𝓤 H A mark.ended MarkC)) where
     -- The slots that are filled, and how far the bits are gone over.
     abbrev Upto : Type 0
-    Upto = (k : ℕ) × ((i : ℕ) × ((k ≤ count) × Passed raster i k))
+    Upto = (k : ℕ) × ((i : ℕ) × ((k ≤ count) × RocksPassed raster i k))
 
     -- What the list holds by then.
     abbrev filled : ℕ → List Marker
