@@ -1,11 +1,11 @@
 -- What and, or, xor and not do to the bits, and that words with the same bits are equal. Each law
 -- is linear in the bits, so that omega reads it.
-use mathlib.Core.Path.{_≡_, refl, sym, ap, _∙_}
+use mathlib.Core.Path.{_≡_, sym, ap, _∙_}
 use Prim.Native.Nat.{ℕ, zero, suc, _+_, _-_, _/_, _%_, _^_, _<_, _≤_, min, max}
 use native.Mathlib.Omega.{arith}
 use native.Mathlib.Nat.{pow-suc, zero-min, zero-max, div-eq-of-lt, lt-of-lt-of-le}
 use lib.Arith.{digits-mod, lt-one}
-use lib.Pow.{pow-pos, pow-mono, shr-shr, field, mod-mod-pow}
+use lib.Pow.{pow-pos, pow-mono, shr-shr}
 use lib.Bits.{bitAnd, bitOr, bitXor, and-step, or-step, and-shr, or-shr, or-comm, or-add-and, xor-add-and, xor-self, and-le-l, and-le-r, and-lt}
 use Rattle.bits.specs.Bit.{bitAt, Both, Either}
 

@@ -2,7 +2,7 @@
 use mathlib.Core.Path.{_≡_, refl, sym, ap, _∙_}
 use mathlib.Core.List.{List}
 use mathlib.Core.Logic.{_⊎_, inl, inr}
-use Prim.Native.Nat.{ℕ, zero, suc, _+_, _-_, _*_, _/_, _%_, _^_, _<_, _≤_}
+use Prim.Native.Nat.{ℕ, zero, suc, _+_, _*_, _/_, _%_, _^_, _<_, _≤_}
 use native.Mathlib.Omega.{arith}
 use native.Mathlib.Decide.{ℕ-discrete}
 use lib.ListN.{length, getD, set, length-set}
@@ -15,8 +15,8 @@ use Rattle.bits.specs.Laws.{bit-le, xor-same, same-xor}
 use Rattle.rows.specs.Layout.{words, stride, spot, spotNorth, spotSouth, spotEast, spotWest, sides-w}
 use Rattle.rows.specs.Rows.{Lit, Place, Rows, MaskAt}
 use Rattle.rows.specs.Laws.{by-set}
-use Rattle.closing.specs.Steps.{aroundAt, Stepped, Along, here, from-west, from-east, Spread, Beside, Steps, start, next, run, Filled}
-use Rattle.closing.specs.Growth.{total, Grown, StillWord, Sweeps, Growing}
+use Rattle.closing.specs.Steps.{aroundAt, Stepped, Along, here, from-west, from-east, Beside, Steps, start, next, run, Filled}
+use Rattle.closing.specs.Growth.{total, Grown, Sweeps, Growing}
 use Rattle.closing.proofs.Laws.Totals.{total-set}
 
 -- Two of four bits.

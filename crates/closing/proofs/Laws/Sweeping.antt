@@ -3,7 +3,7 @@
 use mathlib.Core.Path.{_≡_, refl, sym, ap, _∙_}
 use mathlib.Core.List.{List}
 use mathlib.Core.Logic.{_⊎_, inl, inr}
-use Prim.Native.Nat.{ℕ, zero, suc, _+_, _-_, _*_, _/_, _%_, _^_, _<_, _≤_}
+use Prim.Native.Nat.{ℕ, _+_, _-_, _*_, _/_, _%_, _^_, _<_, _≤_}
 use native.Mathlib.Omega.{arith}
 use native.Mathlib.Decide.{ℕ-discrete}
 use lib.ListN.{length, getD}
@@ -13,8 +13,8 @@ use Rattle.field.specs.Labels.{Closed, rock, Stable, closed-stable, smallest}
 use Rattle.bits.specs.Bit.{bitAt}
 use Rattle.bits.specs.Laws.{or-zero}
 use Rattle.rows.specs.Layout.{spot, spotNorth, spotSouth, spotEast, spotWest}
-use Rattle.rows.specs.Rows.{Lit, Rows, MaskAt}
-use Rattle.closing.specs.Steps.{aroundAt, Stepped}
+use Rattle.rows.specs.Rows.{Lit, Rows}
+use Rattle.closing.specs.Steps.{aroundAt}
 use Rattle.closing.specs.Growth.{total, Grown, StillWord, Sweeps}
 use Rattle.closing.specs.Closes.{Closes}
 use Rattle.closing.proofs.Laws.Totals.{total-le}

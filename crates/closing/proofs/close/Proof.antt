@@ -1,9 +1,6 @@
--- `closing::close` meets its contract.
-use mathlib.Core.Path.{_≡_, refl, sym, ap, _∙_}
-use mathlib.Core.Logic.{_⊎_, inl, inr}
-use Prim.Native.Nat.{ℕ, suc, _+_, _-_, _*_, _/_, _%_, _^_, _<_, _≤_}
+-- `closing::close` meets its contract. At first every row is marked.
+use Prim.Native.Nat.{_+_}
 use native.Mathlib.Omega.{arith}
-use lib.ListN.{length, getD, length-set}
 use Rattle.field.specs.Limits.{side-number}
 use Rattle.rows.specs.Layout.{sides-h}
 use Rattle.closing.proofs.Laws.Marks.{marks-start}

@@ -1,8 +1,8 @@
 -- `closing::fill` meets its contract. The word grows at each turn, so it comes to rest.
 use mathlib.Core.Path.{_≡_, sym}
-use Prim.Native.Nat.{ℕ, _^_, _-_, _<_, _≤_}
+use Prim.Native.Nat.{_^_, _-_, _≤_}
 use native.Mathlib.Omega.{arith}
-use Rattle.closing.specs.Steps.{Stepped, Steps, start, next, run, Filled}
+use Rattle.closing.specs.Steps.{Stepped, Steps, start, next, run}
 use Rattle.closing.proofs.Laws.Spreading.{beside}
 use borrow.Author.Needs.{needs}
 use Rattle.closing.proofs.fill.Statement.{statement}

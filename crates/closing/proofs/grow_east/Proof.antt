@@ -1,14 +1,11 @@
--- `closing::grow_east` meets its contract.
-use mathlib.Core.Path.{_≡_, refl, sym, ap, _∙_}
-use mathlib.Core.Logic.{_⊎_, inl, inr}
-use Prim.Native.Nat.{ℕ, suc, _+_, _-_, _*_, _/_, _%_, _^_, _<_, _≤_}
+-- `closing::grow_east` meets its contract. The loop's invariant: the words passed are grown.
+use mathlib.Core.Path.{_≡_}
+use Prim.Native.Nat.{ℕ, _+_, _-_, _*_, _<_, _≤_}
 use native.Mathlib.Omega.{arith}
-use lib.ListN.{length, getD, length-set}
-use Rattle.closing.specs.Growth.{Sweeps, Sweeping, Growing, GrowingRow}
-use Rattle.rows.specs.Layout.{words}
-use Rattle.field.specs.Map.{side}
+use Rattle.closing.specs.Growth.{Sweeps}
+use Rattle.rows.specs.Layout.{words, sides-w}
 use Rattle.closing.proofs.Laws.Sweeping.{sweeps-start, sweeps-next, sweeps-all}
-use Rattle.rows.specs.Laws.{last-or-before, first-or-behind}
+use Rattle.rows.specs.Laws.{last-or-before}
 use borrow.Author.Needs.{needs}
 use Rattle.closing.proofs.grow_east.Statement.{statement}
 use Rattle.closing.proofs.grow_east.Tie as tie
@@ -20,8 +17,7 @@ abbrev μ-loop : tie.MeasureT-loop
 μ-loop c₀ w h y d₀ j₀ c d j = w - 64 * j
 
 loop-holds : tie.Need-loop-holds Inv-loop μ-loop
-unfolding side
-loop-holds c = (omega arith, c .before .pre .sweeping .sides .most-w, sweeps-start (c .before .pre .sweeping .rows) (λ b a d. omega (arith, d .1)))
+loop-holds c = (omega arith, sides-w (c .before .pre .sweeping .sides), sweeps-start (c .before .pre .sweeping .rows) (λ b a d. omega (arith, d .1)))
 
 mul-loop : tie.Need-mul-loop Inv-loop μ-loop
 mul-loop c = search needs
@@ -36,7 +32,6 @@ grow-word-requires c κs =
     }
 
 add-j : tie.Need-add-j Inv-loop μ-loop
-unfolding side
 add-j c = search needs
 
 loop-less : tie.Need-loop-less Inv-loop μ-loop

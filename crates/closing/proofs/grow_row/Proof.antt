@@ -1,9 +1,5 @@
--- `closing::grow_row` meets its contract.
-use mathlib.Core.Path.{_≡_, refl, sym, ap, _∙_}
-use mathlib.Core.Logic.{_⊎_, inl, inr}
-use Prim.Native.Nat.{ℕ, suc, _+_, _-_, _*_, _/_, _%_, _^_, _<_, _≤_}
-use native.Mathlib.Omega.{arith}
-use lib.ListN.{length, getD, length-set}
+-- `closing::grow_row` meets its contract. Growth to the east and to the west adds up.
+use mathlib.Core.Logic.{inl}
 use Rattle.closing.proofs.Laws.Sweeping.{sweeps-next}
 use borrow.Author.Needs.{needs}
 use Rattle.closing.proofs.grow_row.Statement.{statement}

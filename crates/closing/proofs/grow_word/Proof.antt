@@ -1,11 +1,6 @@
--- `closing::grow_word` meets its contract.
-use mathlib.Core.Path.{_≡_, refl, sym, ap, _∙_}
-use mathlib.Core.Logic.{_⊎_, inl, inr}
-use Prim.Native.Nat.{ℕ, suc, _+_, _-_, _*_, _/_, _%_, _^_, _<_, _≤_}
+-- `closing::grow_word` meets its contract. What is set in the filled word is closed, so the map is
+-- grown.
 use native.Mathlib.Omega.{arith}
-use lib.ListN.{length, getD, length-set}
-use Rattle.field.specs.Map.{side}
-use Rattle.closing.specs.Growth.{Growing}
 use Rattle.closing.proofs.Laws.Growing.{sweeps-word, most-w, room}
 use borrow.Author.Needs.{needs}
 use Rattle.closing.proofs.grow_word.Statement.{statement}

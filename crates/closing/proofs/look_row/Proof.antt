@@ -1,9 +1,7 @@
--- `closing::look_row` meets its contract.
-use mathlib.Core.Path.{_≡_, refl, sym, ap, _∙_}
-use mathlib.Core.Logic.{_⊎_, inl, inr}
-use Prim.Native.Nat.{ℕ, suc, _+_, _-_, _*_, _/_, _%_, _^_, _<_, _≤_}
+-- `closing::look_row` meets its contract. A row that is not marked is still; one that changes marks
+-- the rows beside it.
 use native.Mathlib.Omega.{arith}
-use lib.ListN.{length, getD, length-set}
+use lib.ListN.{length-set}
 use Rattle.closing.proofs.Laws.Marks.{look-calm, look-still, look-grown}
 use borrow.Author.Needs.{needs}
 use Rattle.closing.proofs.look_row.Statement.{statement}

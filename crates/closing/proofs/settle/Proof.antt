@@ -1,13 +1,11 @@
--- `closing::settle` meets its contract.
-use mathlib.Core.Path.{_≡_, refl, sym, ap, _∙_}
-use mathlib.Core.Logic.{_⊎_, inl, inr}
-use Prim.Native.Nat.{ℕ, suc, _+_, _-_, _*_, _/_, _%_, _^_, _<_, _≤_}
+-- `closing::settle` meets its contract. Every sweep but the last sets a bit, so the words' sum
+-- rises, which is bounded; after one that changes nothing every word is still.
+use mathlib.Core.Path.{_≡_, refl, _∙_}
 use native.Mathlib.Omega.{arith}
-use lib.ListN.{length, getD, length-set}
-use Rattle.closing.specs.Growth.{Grown, Sweeps, Sweeping}
-use Rattle.closing.specs.Closes.{Marks, Looks}
+use lib.ListN.{length}
+use Rattle.closing.specs.Growth.{Grown}
+use Rattle.closing.specs.Closes.{Marks}
 use Rattle.closing.proofs.Laws.Sweeping.{grown-refl, grown-trans, closes, left, left-less}
-use borrow.Author.Needs.{needs}
 use Rattle.closing.proofs.settle.Statement.{statement}
 use Rattle.closing.proofs.settle.Tie as tie
 

@@ -1,7 +1,6 @@
 -- `closing::spread` meets its contract. The loop's invariant: what is set is reached, and a jump of
 -- d places goes along a stretch of d.
-use mathlib.Core.Path.{_≡_}
-use Prim.Native.Nat.{ℕ, _+_, _-_, _*_, _/_, _%_, _^_, _<_, _≤_}
+use Prim.Native.Nat.{_-_, _≤_}
 use native.Mathlib.Omega.{arith}
 use Rattle.closing.specs.Steps.{Spread}
 use Rattle.closing.proofs.Laws.Spreading.{East, West, east-start, west-start, east-next, west-next, spread-start, spread-next}

@@ -1,4 +1,4 @@
--- `closing::step` meets its contract.
+-- `closing::step` meets its contract. Each bit that the machine computes is as `Stepped` says.
 use Rattle.closing.proofs.Laws.Steps.{stepped}
 use Rattle.closing.proofs.step.Statement.{statement}
 use Rattle.closing.proofs.step.Tie as tie

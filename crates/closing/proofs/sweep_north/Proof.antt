@@ -1,13 +1,12 @@
--- `closing::sweep_north` meets its contract.
-use mathlib.Core.Path.{_≡_, refl, sym, ap, _∙_}
-use mathlib.Core.Logic.{_⊎_, inl, inr}
-use Prim.Native.Nat.{ℕ, suc, _+_, _-_, _*_, _/_, _%_, _^_, _<_, _≤_}
+-- `closing::sweep_north` meets its contract. The loop's invariant: the rows passed are looked at.
+use mathlib.Core.Path.{_≡_, refl, _∙_}
+use Prim.Native.Nat.{ℕ, _-_, _*_, _<_, _≤_}
 use native.Mathlib.Omega.{arith}
-use lib.ListN.{length, getD, length-set}
-use Rattle.closing.specs.Growth.{Sweeps, Sweeping}
-use Rattle.closing.specs.Closes.{Marks, Looks, LookingRow, LookingAll}
+use lib.ListN.{length}
+use Rattle.closing.specs.Growth.{Sweeps}
+use Rattle.closing.specs.Closes.{Marks}
 use Rattle.closing.proofs.Laws.Sweeping.{sweeps-start, sweeps-next, sweeps-all}
-use Rattle.rows.specs.Laws.{last-or-before, first-or-behind}
+use Rattle.rows.specs.Laws.{last-or-before}
 use borrow.Author.Needs.{needs}
 use Rattle.closing.proofs.sweep_north.Statement.{statement}
 use Rattle.closing.proofs.sweep_north.Tie as tie

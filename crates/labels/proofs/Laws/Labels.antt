@@ -1,12 +1,12 @@
 -- From the bits to the labels and their numbers: the rocks' bits, the closed crossings' bits, and
 -- the corners'.
-use mathlib.Core.Path.{_≡_, refl, sym, ap, ap₂, _∙_}
+use mathlib.Core.Path.{_≡_, sym, ap, ap₂, _∙_}
 use mathlib.Core.List.{List}
-use mathlib.Core.Logic.{_⊎_, inl, inr}
+use mathlib.Core.Logic.{inl}
 use Prim.Native.Nat.{ℕ, zero, suc, _+_, _-_, _*_, _/_, _%_, _^_, _<_, _≤_}
 use native.Mathlib.Omega.{arith}
 use native.Mathlib.Decide.{ℕ-discrete}
-use lib.ListN.{length, getD}
+use lib.ListN.{getD}
 use lib.Bits.{or-lt}
 use Rattle.field.specs.Map.{On, number, at}
 use Rattle.field.specs.Labels.{Closed, rock, closed-on-map, closed-stable, smallest, Shut, RockOn, Label, is-open, is-rock, is-shut}

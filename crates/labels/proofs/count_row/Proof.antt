@@ -1,14 +1,14 @@
--- `labels::count_row` meets its contract.
-use mathlib.Core.Path.{_≡_, refl, sym, ap, _∙_}
-use mathlib.Core.Logic.{_⊎_, inl, inr}
-use Prim.Native.Nat.{ℕ, suc, _+_, _-_, _*_, _/_, _%_, _^_, _<_, _≤_}
+-- `labels::count_row` meets its contract. The loop's invariant: the numbers are those of the words
+-- passed.
+use mathlib.Core.Path.{_≡_, sym}
+use Prim.Native.Nat.{_+_, _-_, _*_, _<_, _≤_}
 use native.Mathlib.Omega.{arith}
-use lib.ListN.{length, getD, length-set}
+use lib.ListN.{length}
 use lib.Count.{ones}
-use Rattle.labels.specs.Counting.{CountedTo, Counted, shutAt, cornersAt}
+use Rattle.labels.specs.Counting.{CountedTo, shutAt, cornersAt}
 use Rattle.field.specs.Limits.{side-number}
 use Rattle.bits.specs.Ones.{sum-none, sum-next}
-use Rattle.rows.specs.Layout.{words, stride, wordsOf, sides-w, sides-h}
+use Rattle.rows.specs.Layout.{words, stride, wordsOf}
 use Rattle.rows.specs.Rows.{wordAt}
 use borrow.Author.Needs.{needs}
 use Rattle.labels.proofs.count_row.Statement.{statement}

@@ -1,5 +1,4 @@
 -- `labels::label` meets its contract. The width that it hands on is the width.
-use mathlib.Core.Path.{_≡_}
 use native.Mathlib.Omega.{arith}
 use Rattle.field.specs.Limits.{side-is}
 use borrow.Author.Needs.{needs}

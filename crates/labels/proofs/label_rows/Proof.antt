@@ -1,8 +1,6 @@
--- `labels::label_rows` meets its contract.
-use mathlib.Core.Path.{_≡_, refl, sym, ap, _∙_}
-use Prim.Native.Nat.{ℕ, _+_, _-_, _*_, _<_, _≤_}
+-- `labels::label_rows` meets its contract. The rocks are read, the closed crossings found, written
+-- and counted: together that is the promise.
 use native.Mathlib.Omega.{arith}
-use lib.ListN.{length, getD}
 use Rattle.rows.specs.Layout.{slots, sides-h}
 use Rattle.rows.specs.Laws.{zeros-at}
 use Rattle.labels.proofs.Laws.Labels.{labelled, putting}

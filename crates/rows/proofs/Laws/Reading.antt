@@ -1,8 +1,8 @@
 -- The rocks of a sheet read word by word.
-use mathlib.Core.Path.{_≡_, refl, sym, ap, _∙_}
+use mathlib.Core.Path.{_≡_, sym, ap, _∙_}
 use mathlib.Core.List.{List}
 use mathlib.Core.Logic.{_⊎_, inl, inr}
-use Prim.Native.Nat.{ℕ, zero, suc, _+_, _-_, _*_, _/_, _%_, _^_, _<_, _≤_}
+use Prim.Native.Nat.{ℕ, _+_, _*_, _/_, _%_, _^_, _<_}
 use native.Mathlib.Omega.{arith}
 use native.Mathlib.Decide.{decLt, ℕ-discrete}
 use lib.ListN.{length, getD, set, length-set}
@@ -11,7 +11,7 @@ use Rattle.bits.specs.Bit.{bitAt}
 use Rattle.bits.specs.Laws.{zero-bit}
 use Rattle.words.specs.Words.{Reads}
 use Rattle.rows.specs.Layout.{spot, sides-w}
-use Rattle.rows.specs.Rows.{bitIn, Place, Rows, WidthAt}
+use Rattle.rows.specs.Rows.{bitIn, Place, WidthAt}
 use Rattle.rows.specs.Sheets.{Reading, Drawing, Drawn}
 use Rattle.rows.specs.Laws.{by-set}
 use Rattle.rows.proofs.Laws.Widths.{at-word}

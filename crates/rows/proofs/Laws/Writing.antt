@@ -1,13 +1,13 @@
 -- The labels written word by word: a word that is written has its labels, one with nothing shut has
 -- them already, and none is lost.
-use mathlib.Core.Path.{_≡_, refl, sym, ap, _∙_}
+use mathlib.Core.Path.{_≡_, refl, ap, _∙_}
 use mathlib.Core.List.{List}
 use mathlib.Core.Logic.{_⊎_, inl, inr}
-use Prim.Native.Nat.{ℕ, zero, suc, _+_, _-_, _*_, _/_, _%_, _^_, _<_, _≤_}
+use Prim.Native.Nat.{ℕ, suc, _+_, _*_, _/_, _%_, _<_}
 use native.Mathlib.Omega.{arith}
 use native.Mathlib.Nat.{mul-le-mul-right}
 use native.Mathlib.Decide.{decLt, ℕ-discrete}
-use lib.ListN.{length, getD}
+use lib.ListN.{getD}
 use Rattle.field.specs.Map.{On, at}
 use Rattle.bits.specs.Laws.{zero-bit, without}
 use Rattle.words.specs.Words.{byteOf, WrittenAt}

@@ -1,9 +1,4 @@
--- `rows::mask_at` meets its contract.
-use mathlib.Core.Path.{_≡_, refl, sym, ap, _∙_}
-use mathlib.Core.Logic.{_⊎_, inl, inr}
-use Prim.Native.Nat.{ℕ, suc, _+_, _-_, _*_, _/_, _%_, _^_, _<_, _≤_}
-use native.Mathlib.Omega.{arith}
-use lib.ListN.{length, getD, length-set}
+-- `rows::mask_at` meets its contract. The mask has as many bits as the word has crossings.
 use Rattle.rows.proofs.Laws.Widths.{mask-at}
 use borrow.Author.Needs.{needs}
 use Rattle.rows.proofs.mask_at.Statement.{statement}

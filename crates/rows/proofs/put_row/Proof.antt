@@ -1,13 +1,10 @@
--- `rows::put_row` meets its contract.
-use mathlib.Core.Path.{_≡_, refl, sym, ap, _∙_}
-use mathlib.Core.Logic.{_⊎_, inl, inr}
-use Prim.Native.Nat.{ℕ, suc, _+_, _-_, _*_, _/_, _%_, _^_, _<_, _≤_}
+-- `rows::put_row` meets its contract. The loop's invariant: the words passed have their labels.
+use mathlib.Core.Path.{_≡_}
+use Prim.Native.Nat.{ℕ, _+_, _-_, _*_, _<_, _≤_}
 use native.Mathlib.Omega.{arith}
-use lib.ListN.{length, getD, length-set}
-use Rattle.rows.specs.Sheets.{Drawing, Putting, PuttingRow, Wrote}
-use Rattle.rows.specs.Layout.{words, stride, sides-w, sides-h}
-use Rattle.rows.proofs.Laws.Widths.{row-in}
-use Rattle.rows.proofs.Laws.Writing.{wrote-start, wrote-next, wrote-all, putting-next, put-skip, put-done}
+use Rattle.rows.specs.Sheets.{Wrote}
+use Rattle.rows.specs.Layout.{words, sides-w}
+use Rattle.rows.proofs.Laws.Writing.{wrote-start, wrote-next, wrote-all, putting-next}
 use Rattle.rows.specs.Laws.{last-or-before}
 use borrow.Author.Needs.{needs}
 use Rattle.rows.proofs.put_row.Statement.{statement}

@@ -1,14 +1,9 @@
--- `rows::put_word` meets its contract.
-use mathlib.Core.Path.{_≡_, refl, sym, ap, _∙_}
-use mathlib.Core.Logic.{_⊎_, inl, inr}
-use Prim.Native.Nat.{ℕ, suc, _+_, _-_, _*_, _/_, _%_, _^_, _<_, _≤_}
+-- `rows::put_word` meets its contract. With nothing shut the bytes are right already; else they are
+-- written.
 use native.Mathlib.Omega.{arith}
-use lib.ListN.{length, getD, length-set}
-use Rattle.rows.specs.Sheets.{Drawing, Putting, PuttingRow, Wrote}
-use Rattle.rows.specs.Layout.{sides-w, sides-h}
+use Rattle.rows.specs.Layout.{sides-w}
 use Rattle.rows.proofs.Laws.Widths.{row-in}
-use Rattle.rows.proofs.Laws.Writing.{wrote-start, wrote-next, wrote-all, putting-next, put-skip, put-done}
-use Rattle.rows.specs.Laws.{last-or-before}
+use Rattle.rows.proofs.Laws.Writing.{put-skip, put-done}
 use borrow.Author.Needs.{needs}
 use Rattle.rows.proofs.put_word.Statement.{statement}
 use Rattle.rows.proofs.put_word.Tie as tie

@@ -1,14 +1,10 @@
--- `rows::read` meets its contract.
-use mathlib.Core.Path.{_≡_, refl, sym, ap, _∙_}
-use mathlib.Core.Logic.{_⊎_, inl, inr}
-use Prim.Native.Nat.{ℕ, suc, _+_, _-_, _*_, _/_, _%_, _^_, _<_, _≤_}
+-- `rows::read` meets its contract. The loop's invariant: the rows passed are read.
+use mathlib.Core.Path.{_≡_, refl, _∙_}
+use Prim.Native.Nat.{ℕ, _-_, _<_, _≤_}
 use native.Mathlib.Omega.{arith}
-use lib.ListN.{length, getD, length-set}
-use Rattle.rows.specs.Sheets.{Drawing, Putting, PuttingRow, Wrote}
-use Rattle.rows.specs.Layout.{sides-w, sides-h}
-use Rattle.rows.proofs.Laws.Widths.{row-in}
-use Rattle.rows.proofs.Laws.Reading.{draw-start, draw-all, draw-done, draw-word, row-none, row-next, row-all}
-use Rattle.rows.specs.Laws.{last-or-before}
+use lib.ListN.{length}
+use Rattle.rows.specs.Sheets.{Drawing}
+use Rattle.rows.proofs.Laws.Reading.{draw-start, draw-done}
 use borrow.Author.Needs.{needs}
 use Rattle.rows.proofs.read.Statement.{statement}
 use Rattle.rows.proofs.read.Tie as tie

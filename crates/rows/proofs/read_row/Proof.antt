@@ -1,15 +1,15 @@
--- `rows::read_row` meets its contract.
-use mathlib.Core.Path.{_≡_, refl, sym, ap, _∙_}
-use mathlib.Core.Logic.{_⊎_, inl, inr}
-use Prim.Native.Nat.{ℕ, suc, _+_, _-_, _*_, _/_, _%_, _^_, _<_, _≤_}
+-- `rows::read_row` meets its contract. The loop's invariant: the words passed have the row's bytes
+-- as bits.
+use mathlib.Core.Path.{_≡_, refl}
+use mathlib.Core.Logic.{_⊎_}
+use Prim.Native.Nat.{ℕ, _+_, _-_, _*_, _<_, _≤_}
 use native.Mathlib.Omega.{arith}
-use lib.ListN.{length, getD, length-set}
-use Rattle.rows.specs.Sheets.{Drawing, Putting, PuttingRow, Wrote}
+use lib.ListN.{length, length-set}
+use Rattle.rows.specs.Sheets.{Drawing}
 use Rattle.field.specs.Limits.{side-number}
 use Rattle.rows.specs.Layout.{words, stride, sides-w, sides-h}
 use Rattle.rows.proofs.Laws.Widths.{row-in}
-use Rattle.rows.proofs.Laws.Reading.{draw-start, draw-all, draw-done, draw-word, row-none, row-next, row-all}
-use Rattle.rows.specs.Laws.{last-or-before}
+use Rattle.rows.proofs.Laws.Reading.{draw-all, draw-word, row-none, row-next, row-all}
 use borrow.Author.Needs.{needs}
 use Rattle.rows.proofs.read_row.Statement.{statement}
 use Rattle.rows.proofs.read_row.Tie as tie

@@ -1,8 +1,5 @@
--- `words::both` meets its contract.
-use mathlib.Core.Path.{_≡_, refl, sym, ap, _∙_}
-use Prim.Native.Nat.{ℕ, _+_, _-_, _*_, _/_, _^_, _<_, _≤_}
+-- `words::both` meets its contract. No byte of the sum is above 3, so none runs over into the next.
 use native.Mathlib.Omega.{arith}
-use lib.ListN.{length, getD}
 use Rattle.words.proofs.Laws.Eights.{bytes-law, spread-most}
 use borrow.Author.Needs.{needs}
 use Rattle.words.proofs.both.Statement.{statement}

@@ -1,8 +1,5 @@
--- `words::eight` meets its contract.
-use mathlib.Core.Path.{_≡_, refl, sym, ap, _∙_}
-use Prim.Native.Nat.{ℕ, _+_, _-_, _*_, _/_, _%_, _^_, _<_, _≤_}
-use native.Mathlib.Omega.{arith}
-use lib.ListN.{length, getD, length-set}
+-- `words::eight` meets its contract. Eight bytes of 0 and 1 are the digits of a word; gathered,
+-- they are its bits.
 use Rattle.words.proofs.Laws.Eights.{eight-law}
 use borrow.Author.Needs.{needs}
 use Rattle.words.proofs.eight.Statement.{statement}

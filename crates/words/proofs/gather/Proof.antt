@@ -1,8 +1,5 @@
--- `words::gather` meets its contract.
-use mathlib.Core.Path.{_≡_, refl, sym, ap, _∙_}
-use Prim.Native.Nat.{ℕ, _+_, _-_, _*_, _/_, _%_, _^_, _<_, _≤_}
-use native.Mathlib.Omega.{arith}
-use lib.ListN.{length, getD, length-set}
+-- `words::gather` meets its contract. It computes `gathered`, word for word.
+use mathlib.Core.Path.{refl}
 use Rattle.words.specs.Eights.{gathered}
 use Rattle.words.proofs.gather.Statement.{statement}
 use Rattle.words.proofs.gather.Tie as tie

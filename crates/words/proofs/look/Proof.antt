@@ -1,8 +1,5 @@
--- `words::look` meets its contract.
-use mathlib.Core.Path.{_≡_, refl, sym, ap, _∙_}
-use Prim.Native.Nat.{ℕ, _+_, _-_, _*_, _/_, _%_, _^_, _<_, _≤_}
+-- `words::look` meets its contract. A byte of a sheet of 0 and 1 is one of the two.
 use native.Mathlib.Omega.{arith}
-use lib.ListN.{length, getD, length-set}
 use borrow.Author.Needs.{needs}
 use Rattle.words.proofs.look.Statement.{statement}
 use Rattle.words.proofs.look.Tie as tie

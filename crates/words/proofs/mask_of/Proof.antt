@@ -1,4 +1,4 @@
--- `words::mask_of` meets its contract.
+-- `words::mask_of` meets its contract. Ones, shifted until n of them are left.
 use borrow.Author.Needs.{needs}
 use Rattle.bits.specs.Carries.{mask-law}
 use Rattle.words.proofs.mask_of.Statement.{statement}

@@ -1,10 +1,7 @@
--- `words::ones_of` meets its contract.
-use mathlib.Core.Path.{_≡_, refl, sym, ap, _∙_}
-use Prim.Native.Nat.{ℕ, _+_, _-_, _*_, _<_, _≤_}
+-- `words::ones_of` meets its contract. At most 64 bits are set, a number that fits.
+use mathlib.Core.Path.{refl}
 use native.Mathlib.Omega.{arith}
-use lib.ListN.{length, getD}
-use lib.Count.{ones, ones-le}
-use Rattle.words.specs.Words.{Ones}
+use lib.Count.{ones-le}
 use Rattle.words.proofs.ones_of.Statement.{statement}
 use Rattle.words.proofs.ones_of.Tie as tie
 

@@ -1,8 +1,7 @@
--- `words::put_eight` meets its contract.
-use mathlib.Core.Path.{_≡_, refl, sym, ap, _∙_}
-use Prim.Native.Nat.{ℕ, _+_, _-_, _*_, _/_, _%_, _^_, _<_, _≤_}
+-- `words::put_eight` meets its contract. Each store writes one byte of the word.
+use Prim.Native.Nat.{_/_, _^_}
 use native.Mathlib.Omega.{arith}
-use lib.ListN.{length, getD, length-set}
+use lib.ListN.{length-set}
 use lib.Bits.{and-le-r}
 use Rattle.words.proofs.Laws.Eights.{put-eight-law}
 use borrow.Author.Needs.{needs}

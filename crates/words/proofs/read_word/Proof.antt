@@ -1,6 +1,6 @@
 -- `words::read_word` meets its contract. The loop's invariant: v has the bytes passed as bits.
 use mathlib.Core.Path.{_≡_}
-use Prim.Native.Nat.{ℕ, _+_, _-_, _*_, _/_, _%_, _^_, _<_, _≤_}
+use Prim.Native.Nat.{_+_, _-_, _≤_}
 use native.Mathlib.Omega.{arith}
 use Rattle.words.specs.Words.{Reads}
 use Rattle.words.proofs.Laws.Words.{reads-next}

@@ -1,8 +1,5 @@
--- `words::spread` meets its contract.
-use mathlib.Core.Path.{_≡_, refl, sym, ap, _∙_}
-use Prim.Native.Nat.{ℕ, _+_, _-_, _*_, _/_, _%_, _^_, _<_, _≤_}
-use native.Mathlib.Omega.{arith}
-use lib.ListN.{length, getD, length-set}
+-- `words::spread` meets its contract. It computes `spreadOut`, word for word.
+use mathlib.Core.Path.{refl}
 use Rattle.words.specs.Eights.{spreadOut}
 use Rattle.words.proofs.spread.Statement.{statement}
 use Rattle.words.proofs.spread.Tie as tie

@@ -1,6 +1,6 @@
 -- `words::write_word` meets its contract. The loop's invariant: the bytes passed are written.
 use mathlib.Core.Path.{_≡_, refl}
-use Prim.Native.Nat.{ℕ, _+_, _-_, _*_, _/_, _%_, _^_, _<_, _≤_}
+use Prim.Native.Nat.{_-_, _≤_}
 use native.Mathlib.Omega.{arith}
 use Rattle.bits.specs.Laws.{bit-le}
 use Rattle.bits.specs.Shifts.{low-bit}
