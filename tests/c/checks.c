@@ -126,5 +126,5 @@ int main(void) {
     refusals();
     own_drives();
     long_list();
-    return verdict("checks");
+    return verdict("tests/c/checks");
 }
