@@ -1,7 +1,7 @@
 /*
  * Grainbodkin: the obstacle layer for carts on a grid of crossings.
  *
- * The eleven calls of the static library, target/staticlib/liblayer.a. Each call answers by the
+ * The twelve calls of the static library, target/staticlib/liblayer.a. Each call answers by the
  * lowest refusal that applies, or succeeds: for every value of every number and every content of
  * every buffer. What C cannot let a callee check is the caller's part: a pointer stands before its
  * length and points to so many elements, aligned for their type; what a call may write overlaps
@@ -66,7 +66,8 @@ enum bodkin_refusal {
     BODKIN_ID_NOT_IN_USE = 6,    /* clearing an id not in use */
     BODKIN_NO_SLOT = 7,          /* count, or a file's rocks, would pass the list lent or
                                     BODKIN_MARKERS */
-    BODKIN_END_CLOSED = 8,       /* assurance, hop, region or drive asked, an end closed */
+    BODKIN_END_CLOSED = 8,       /* assurance, hop, region, drive or check asked, an end
+                                    closed */
     BODKIN_NO_DRIVE = 9,         /* region or drive asked, both ends open, no shortest drive */
     BODKIN_SHORT_ROUTE = 10,     /* route buffer shorter than distance + 1 */
     BODKIN_NOT_ASSURED = 11,     /* hop asked, home not assured */
@@ -77,6 +78,18 @@ enum bodkin_refusal {
     BODKIN_LONG_RASTER = 15,     /* bytes after the raster (in P1: other than blanks) */
     BODKIN_SHARED_CROSSING = 16, /* two markers on one crossing, when writing */
     BODKIN_SHORT_OUTPUT = 17     /* output too short for the whole file */
+};
+
+/* Why a crossing of a drawn list is at fault. 0 is accepted. */
+enum bodkin_reason {
+    BODKIN_ACCEPTED = 0,
+    BODKIN_WRONG_START = 1,     /* the first number is not that of s */
+    BODKIN_OFF_THE_MAP = 2,     /* no crossing of the map has the number */
+    BODKIN_IS_CLOSED = 3,       /* the crossing is closed */
+    BODKIN_NOT_A_NEIGHBOUR = 4, /* it is no neighbour of the one before */
+    BODKIN_NOT_NEARER = 5,      /* it is not nearer d than the one before */
+    BODKIN_ENDED_EARLY = 6,     /* the list ended before d */
+    BODKIN_WENT_ON = 7          /* the list went on after d */
 };
 
 /* A rock marker: an id, 1 to 65,535, and a crossing. Several may stand on one; each is kept. */
@@ -123,6 +136,12 @@ struct bodkin_homeward {
 struct bodkin_drove {
     uint8_t refusal;
     size_t length; /* crossings filled at the front of the route */
+};
+
+struct bodkin_checked {
+    uint8_t refusal;
+    uint8_t reason;  /* 0: accepted; otherwise why the crossing at `position` is at fault */
+    size_t position; /* from 0 on; of a list that ended early, its length */
 };
 
 struct bodkin_read_map {
@@ -246,6 +265,19 @@ struct bodkin_drove bodkin_drive(const struct bodkin_marker *list, size_t lent, 
                                  uint32_t *state);
 
 /*
+ * Checks a drawn list, crossing numbers in order: accepted exactly if it is a shortest drive from
+ * (sx, sy) to (dx, dy); otherwise the position of the first crossing at fault, and why. A crossing
+ * after d has gone on; at any other the reasons are tried in their order. The list is only read.
+ * The label sheet holds the labels.
+ * Refuses 1, 2, 3 or 4, and then no byte changes; or 8, and then the label sheet holds the labels.
+ */
+BODKIN_ANSWER
+struct bodkin_checked bodkin_check(const struct bodkin_marker *list, size_t lent, size_t count,
+                                   size_t width, size_t height, size_t sx, size_t sy, size_t dx,
+                                   size_t dy, uint8_t *labels, size_t labels_len,
+                                   const uint16_t *drawn, size_t drawn_len);
+
+/*
  * Reads a PBM map, P1 or P4. Its rocks become markers with ids 1, 2, 3 and on, in raster order, in
  * the first slots; other slots stay. Hands back width, height and the new count.
  * Refuses 12, then 13 in the header, 1, then at the first fault met in the raster 13, 14 or 15,
@@ -310,6 +342,21 @@ static inline const char *bodkin_refusal_text(uint8_t refusal) {
     case BODKIN_SHARED_CROSSING: return "two markers stand on one crossing";
     case BODKIN_SHORT_OUTPUT: return "the output is too short for the whole file";
     default: return "no refusal has this number";
+    }
+}
+
+/* What a reason of a drawn list's fault says, in words; of 0 "accepted". */
+static inline const char *bodkin_reason_text(uint8_t reason) {
+    switch (reason) {
+    case BODKIN_ACCEPTED: return "accepted";
+    case BODKIN_WRONG_START: return "wrong start";
+    case BODKIN_OFF_THE_MAP: return "off the map";
+    case BODKIN_IS_CLOSED: return "closed";
+    case BODKIN_NOT_A_NEIGHBOUR: return "not a neighbour";
+    case BODKIN_NOT_NEARER: return "not nearer d";
+    case BODKIN_ENDED_EARLY: return "list ended early";
+    case BODKIN_WENT_ON: return "list went on after d";
+    default: return "no reason has this number";
     }
 }
 

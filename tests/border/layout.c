@@ -1,7 +1,8 @@
 /*
  * What C sees at the border, a line each: the size and alignment of every struct, each field's
- * name, offset and size in the order of the offsets; the limits; and every refusal in words.
- * rust/grainbodkin/examples/border.rs prints the same of Rust; tests/border/run compares the two.
+ * name, offset and size in the order of the offsets; the limits; and every refusal and reason in
+ * words. rust/grainbodkin/examples/border.rs prints the same of Rust; tests/border/run compares the
+ * two.
  */
 #include <stdalign.h>
 #include <stdio.h>
@@ -43,6 +44,10 @@ static void structs(void) {
     STRUCT(drove);
     FIELD(drove, refusal);
     FIELD(drove, length);
+    STRUCT(checked);
+    FIELD(checked, refusal);
+    FIELD(checked, reason);
+    FIELD(checked, position);
     STRUCT(read_map);
     FIELD(read_map, refusal);
     FIELD(read_map, width);
@@ -61,5 +66,7 @@ int main(void) {
     printf("stack %d\n", BODKIN_STACK);
     for (int number = BODKIN_BAD_SIZE; number <= BODKIN_SHORT_OUTPUT; number++)
         printf("refused %d: %s\n", number, bodkin_refusal_text((uint8_t)number));
+    for (int number = BODKIN_WRONG_START; number <= BODKIN_WENT_ON; number++)
+        printf("reason %d: %s\n", number, bodkin_reason_text((uint8_t)number));
     return 0;
 }

@@ -22,7 +22,8 @@ static size_t count;
 static uint8_t labels[CROSSINGS], region[CROSSINGS], ways[4][CROSSINGS], out[1024];
 static uint8_t file[FILE_ROOM];
 static size_t file_len;
-static uint16_t route[2 * SIDE];
+static uint16_t route[2 * SIDE], drawn[2 * SIDE];
+static size_t drawn_len;
 static uint32_t state;
 static int refusal;
 
@@ -46,6 +47,7 @@ static void assured(void) { refusal = bodkin_assured(LIST, ENDS, LABELS).refusal
 static void hop(void) { refusal = bodkin_hop(LIST, ENDS, LABELS).refusal; }
 static void make_region(void) { refusal = bodkin_region(LIST, ENDS, LABELS, region, CROSSINGS); }
 static void drive(void) { refusal = bodkin_drive(LIST, ENDS, LABELS, region, CROSSINGS, route, 2 * SIDE, &state).refusal; }
+static void check(void) { refusal = bodkin_check(LIST, ENDS, LABELS, drawn, drawn_len).refusal; }
 static void read_map(void) { refusal = bodkin_read(file, file_len, freed, BODKIN_MARKERS).refusal; }
 static void write_map(void) { refusal = bodkin_write(LIST, out, sizeof out).refusal; }
 
@@ -76,6 +78,13 @@ static void rocks(void) {
             list[count] = (struct bodkin_marker){.id = count + 1, .x = x, .y = y};
             count++;
         }
+}
+
+/* A drawn list that is looked at to its end: east along the south edge, north along the east edge. */
+static void draw(void) {
+    drawn_len = 0;
+    for (size_t x = 0; x < SIDE; x++) drawn[drawn_len++] = (uint16_t)x;
+    for (size_t y = 1; y < SIDE; y++) drawn[drawn_len++] = (uint16_t)(y * SIDE + SIDE - 1);
 }
 
 /* Puts so many bytes at the end of the file. */
@@ -150,6 +159,8 @@ int main(void) {
     compare("hop", hop, "");
     compare("region", make_region, "");
     compare("drive", drive, "");
+    draw();
+    compare("check", check, "");
     compare("write", write_map, "");
     compare_reading();
     return failed != 0;

@@ -17,9 +17,11 @@ pub mod ListCalls
 pub mod HopCalls
 pub mod LabelCalls
 pub mod DriveCalls
+pub mod CheckCall
 pub mod RouteCalls
 pub mod Agree
 pub mod Unread
+pub mod CheckCalls
 pub mod Demands
 pub mod Sharing
 pub mod ListRead

@@ -66,3 +66,12 @@ pub struct WroteMap {
     pub refusal: u8,
     pub bytes: usize,
 }
+
+// What is found of a drawn list: why it is at fault and the position of the first crossing at
+// fault, both 0 for an accepted list; or the refusal.
+#[repr(C)]
+pub struct Checked {
+    pub refusal: u8,
+    pub reason: u8,
+    pub position: usize,
+}

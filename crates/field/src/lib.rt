@@ -1,6 +1,7 @@
 // The field: what document 01 defines, as meanings that a reader must believe and workings that
 // compute. The definitions stand in specs/; here stands only what code and definitions share.
 pub mod refusals; // refusals.rt: the refusal numbers
+pub mod reasons; // reasons.rt: why a drawn list is refused
 
 // "Width and height: 1 to 64 each."
 pub const SIDE: usize = 64;
@@ -20,4 +21,19 @@ pub struct Marker {
     pub id: u16,
     pub x: u16,
     pub y: u16,
+}
+
+// What the checker finds of a drawn list: why it is refused, and the position of the first crossing
+// at fault; both are 0 for a list that is accepted.
+pub struct Finding {
+    pub reason: u8,
+    pub position: usize,
+}
+
+// What is found of one number of a drawn list: the first reason that applies to it; or none, and
+// the crossing.
+pub struct Step {
+    pub reason: u8,
+    pub x: usize,
+    pub y: usize,
 }

@@ -4,7 +4,7 @@ use crate::layer::{Layer, Listing};
 use crate::plain::Stack;
 use crate::room::{Room, Window};
 use grainbodkin_sys::{
-    Assurance, Counted, Drove, Four, Homeward, Labelling, Marker, ReadMap, WroteMap,
+    Assurance, Checked, Counted, Drove, Four, Homeward, Labelling, Marker, ReadMap, WroteMap,
 };
 use std::hint::black_box;
 
@@ -18,6 +18,7 @@ pub enum Call {
     Hop,
     Region,
     Drive,
+    Check,
     Enter,
     Clear,
     ReadPlain,
@@ -26,7 +27,7 @@ pub enum Call {
 }
 
 /// Every call with its name.
-pub const CALLS: [(&str, Call); 12] = [
+pub const CALLS: [(&str, Call); 13] = [
     ("label", Call::Label),
     ("measure", Call::Measure),
     ("distances", Call::Distances),
@@ -34,6 +35,7 @@ pub const CALLS: [(&str, Call); 12] = [
     ("hop", Call::Hop),
     ("region", Call::Region),
     ("drive", Call::Drive),
+    ("check", Call::Check),
     ("enter", Call::Enter),
     ("clear", Call::Clear),
     ("read-p1", Call::ReadPlain),
@@ -52,9 +54,12 @@ impl Call {
         match self {
             Call::Label => &crate::maps::NAMES,
             Call::Measure => &["empty", "sparse", "dense", "diagonal", "lattice-2"],
-            Call::Distances | Call::Assured | Call::Hop | Call::Region | Call::Drive => {
-                &["empty", "sparse", "dense", "blocks", "lattice-2"]
-            }
+            Call::Distances
+            | Call::Assured
+            | Call::Hop
+            | Call::Region
+            | Call::Drive
+            | Call::Check => &["empty", "sparse", "dense", "blocks", "lattice-2"],
             _ => &["sparse", "dense", "full"],
         }
     }
@@ -69,6 +74,7 @@ pub enum Answer {
     Assurance(Assurance),
     Homeward(Homeward),
     Drove(Drove),
+    Checked(Checked),
     Counted(Counted),
     ReadMap(ReadMap),
     WroteMap(WroteMap),
@@ -83,6 +89,7 @@ impl Answer {
             Answer::Assurance(a) => a.refusal,
             Answer::Homeward(a) => a.refusal,
             Answer::Drove(a) => a.refusal,
+            Answer::Checked(a) => a.refusal,
             Answer::Counted(a) => a.refusal,
             Answer::ReadMap(a) => a.refusal,
             Answer::WroteMap(a) => a.refusal,
@@ -130,6 +137,7 @@ pub fn repeat<L: Layer>(call: Call, input: &Input, room: &mut Room, times: usize
             let write = || L::write(list, n, w, h, &mut room.out);
             Answer::WroteMap(again(times, write))
         }
+        Call::Check => check_again::<L>(input, room, times),
         Call::Region | Call::Drive => drive_again::<L>(call, input, room, times),
         _ => ask_again::<L>(call, input, room, times),
     }
@@ -180,6 +188,17 @@ fn drive_again<L: Layer>(call: Call, input: &Input, room: &mut Room, times: usiz
         L::drive(list, n, w, h, sx, sy, dx, dy, labels, g, route, z)
     };
     Answer::Drove(again(times, drive))
+}
+
+/// The check of a drive from one end to the other.
+fn check_again<L: Layer>(input: &Input, room: &mut Room, times: usize) -> Answer {
+    let (list, n) = (black_box(&input.list[..]), input.list.len());
+    let (w, h) = black_box((input.side, input.side));
+    let ((sx, sy), (dx, dy)) = black_box((input.s, input.d));
+    let drawn = black_box(&input.drawn[..]);
+    let labels = &mut room.labels;
+    let check = || L::check(list, n, w, h, sx, sy, dx, dy, labels, drawn);
+    Answer::Checked(again(times, check))
 }
 
 /// Enters the map's first marker, before all others, into a list that it fills: every other marker moves.

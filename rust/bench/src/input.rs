@@ -21,6 +21,8 @@ pub struct Input {
     /// The ends of region and drive.
     pub s: Place,
     pub d: Place,
+    /// A drive between them, where there is one, as it might be drawn by hand.
+    pub drawn: Vec<u16>,
     /// Home and place of assurance and hop.
     pub home: Place,
     pub place: Place,
@@ -37,6 +39,7 @@ impl Input {
             packed: packed(&map, side),
             s: (0, 0),
             d: (side - 1, side - 1),
+            drawn: Vec::new(),
             home: (0, 0),
             place: (side - 1, side - 1),
         };
@@ -62,6 +65,7 @@ impl Input {
         let homes = near().map(|home| (home, self.farthest_assured(home, &open)));
         let hop = homes.max_by_key(|&(home, place)| distance(home, place));
         (self.s, self.d) = ends.unwrap_or((self.s, self.d));
+        self.drawn = self.a_drive();
         (self.home, self.place) = hop.unwrap_or((self.home, self.place));
     }
 
@@ -71,6 +75,21 @@ impl Input {
         let mut region = labels.clone();
         let (labels, region) = (&mut labels, &mut region);
         Plain::region(list, n, side, side, sx, sy, dx, dy, labels, region) == 0
+    }
+
+    /// A drive from s to d, or nothing.
+    fn a_drive(&self) -> Vec<u16> {
+        let (list, n, side) = (&self.list, self.list.len(), self.side);
+        let ((sx, sy), (dx, dy)) = (self.s, self.d);
+        let mut labels = vec![0; side * side];
+        let mut region = labels.clone();
+        let mut route = vec![0; 2 * side];
+        let (labels, region, mut z) = (&mut labels, &mut region, 1);
+        let drove = Plain::drive(
+            list, n, side, side, sx, sy, dx, dy, labels, region, &mut route, &mut z,
+        );
+        route.truncate(drove.length);
+        route
     }
 
     /// The open crossing farthest from an open home for which home is assured: both offsets are at most home's distances, or there

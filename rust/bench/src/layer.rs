@@ -1,6 +1,7 @@
-//! The eleven calls as both sides have them: over lent slices, with the answers of `grainbodkin-sys`.
+//! The twelve calls as both sides have them: over lent slices, with the answers of
+//! `grainbodkin-sys`.
 use grainbodkin_sys::{
-    Assurance, Counted, Drove, Four, Homeward, Labelling, Marker, ReadMap, WroteMap,
+    Assurance, Checked, Counted, Drove, Four, Homeward, Labelling, Marker, ReadMap, WroteMap,
 };
 
 /// The two calls that change the list.
@@ -18,7 +19,7 @@ pub trait Listing {
     fn clear(list: &mut [Marker], count: usize, w: usize, h: usize, id: u16) -> Counted;
 }
 
-/// All eleven.
+/// All twelve.
 pub trait Layer: Listing {
     fn label(list: &[Marker], count: usize, w: usize, h: usize, labels: &mut [u8]) -> Labelling;
 
@@ -95,6 +96,19 @@ pub trait Layer: Listing {
         route: &mut [u16],
         state: &mut u32,
     ) -> Drove;
+
+    fn check(
+        list: &[Marker],
+        count: usize,
+        w: usize,
+        h: usize,
+        sx: usize,
+        sy: usize,
+        dx: usize,
+        dy: usize,
+        labels: &mut [u8],
+        drawn: &[u16],
+    ) -> Checked;
 
     fn read(file: &[u8], list: &mut [Marker]) -> ReadMap;
 

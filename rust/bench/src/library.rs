@@ -2,7 +2,9 @@
 //! so every `unsafe` below rests on the slices alone.
 use crate::layer::{Layer, Listing};
 use grainbodkin_sys as sys;
-use sys::{Assurance, Counted, Drove, Four, Homeward, Labelling, Marker, ReadMap, WroteMap};
+use sys::{
+    Assurance, Checked, Counted, Drove, Four, Homeward, Labelling, Marker, ReadMap, WroteMap,
+};
 
 pub struct Library;
 
@@ -181,6 +183,37 @@ impl Layer for Library {
                 route.as_mut_ptr(),
                 route.len(),
                 state,
+            )
+        }
+    }
+
+    fn check(
+        list: &[Marker],
+        count: usize,
+        w: usize,
+        h: usize,
+        sx: usize,
+        sy: usize,
+        dx: usize,
+        dy: usize,
+        labels: &mut [u8],
+        drawn: &[u16],
+    ) -> Checked {
+        unsafe {
+            sys::bodkin_check(
+                list.as_ptr(),
+                list.len(),
+                count,
+                w,
+                h,
+                sx,
+                sy,
+                dx,
+                dy,
+                labels.as_mut_ptr(),
+                labels.len(),
+                drawn.as_ptr(),
+                drawn.len(),
             )
         }
     }

@@ -1,7 +1,7 @@
 //! What the independent program says of a case.
 use crate::case::{After, Call, Case, Memory};
 use independent::asking::Asking;
-use independent::{distances, drives, files, hops, labels, markers};
+use independent::{checks, distances, drives, files, hops, labels, markers};
 
 /// The independent program's answer and memory after the call.
 pub fn expect(case: &Case) -> After {
@@ -15,6 +15,7 @@ pub fn expect(case: &Case) -> After {
         Call::Hop => hop(case, &mut memory),
         Call::Region => region(case, &mut memory),
         Call::Drive => drive(case, &mut memory),
+        Call::Check => check(case, &mut memory),
         Call::Read => read(case, &mut memory),
         Call::Write => write(case, &mut memory),
     };
@@ -111,6 +112,16 @@ fn drive(case: &Case, memory: &mut Memory) -> Answer {
     memory.route = after.route;
     memory.state = after.state;
     (after.refusal, vec![("length", after.length)])
+}
+
+fn check(case: &Case, memory: &mut Memory) -> Answer {
+    let after = checks::check(asking(case), &case.before.drawn);
+    memory.labels = after.labels;
+    let answer = vec![
+        ("reason", usize::from(after.reason)),
+        ("position", after.position),
+    ];
+    (after.refusal, answer)
 }
 
 fn read(case: &Case, memory: &mut Memory) -> Answer {

@@ -12,6 +12,7 @@ pub struct Lendings {
     pub region: Lent<u8>,
     pub route: Lent<u16>,
     pub state: Lent<u32>,
+    pub drawn: Lent<u16>,
     pub file: Lent<u8>,
     pub out: Lent<u8>,
 }
@@ -31,6 +32,7 @@ impl Lendings {
             region: bytes(&before.region),
             route: Lent::new(before.route.iter().copied()),
             state: Lent::new([before.state].into_iter()),
+            drawn: Lent::new(before.drawn.iter().copied()),
             file: bytes(&before.file),
             out: bytes(&before.out),
         }
@@ -49,6 +51,7 @@ impl Lendings {
             region: self.region.content().to_vec(),
             route: self.route.content().to_vec(),
             state: self.state.content()[0],
+            drawn: self.drawn.content().to_vec(),
             file: self.file.content().to_vec(),
             out: self.out.content().to_vec(),
         }
@@ -66,6 +69,7 @@ impl Lendings {
             ("region", self.region.intact()),
             ("route", self.route.intact()),
             ("state", self.state.intact()),
+            ("drawn", self.drawn.intact()),
             ("file", self.file.intact()),
             ("out", self.out.intact()),
         ];

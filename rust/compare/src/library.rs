@@ -18,6 +18,7 @@ pub fn run(case: &Case) -> (After, Vec<&'static str>) {
         Call::Hop => hop(case, &mut lent),
         Call::Region => region(case, &mut lent),
         Call::Drive => drive(case, &mut lent),
+        Call::Check => check(case, &mut lent),
         Call::Read => read(case, &mut lent),
         Call::Write => write(case, &mut lent),
     };
@@ -222,6 +223,32 @@ fn drive(case: &Case, lent: &mut Lendings) -> Answer {
         )
     };
     (after.refusal, vec![("length", after.length)])
+}
+
+fn check(case: &Case, lent: &mut Lendings) -> Answer {
+    let [s, d] = case.places;
+    let after = unsafe {
+        sys::bodkin_check(
+            lent.list.pointer(),
+            lent.list.len(),
+            case.count,
+            case.map.width,
+            case.map.height,
+            s.x,
+            s.y,
+            d.x,
+            d.y,
+            lent.labels.pointer(),
+            lent.labels.len(),
+            lent.drawn.pointer(),
+            lent.drawn.len(),
+        )
+    };
+    let answer = vec![
+        ("reason", usize::from(after.reason)),
+        ("position", after.position),
+    ];
+    (after.refusal, answer)
 }
 
 fn read(_: &Case, lent: &mut Lendings) -> Answer {

@@ -1,6 +1,7 @@
 //! Makes the case with a given number: a call, a map, a list, places and buffers, and now and then
 //! something harmed.
 use crate::case::{Call, Case};
+use crate::drawings;
 use crate::harms::harm;
 use crate::lists::{lend, noise};
 use crate::mapfiles;
@@ -9,8 +10,8 @@ use crate::places;
 use crate::random::{Random, Weighted};
 use independent::map::Map;
 
-/// How often each call is made, among a hundred.
-const WEIGHTS: [Weighted<Call>; 11] = [
+/// How often each call is made, by weight.
+const WEIGHTS: [Weighted<Call>; 12] = [
     ("enter", 9, Call::Enter),
     ("clear", 6, Call::Clear),
     ("label", 10, Call::Label),
@@ -20,6 +21,7 @@ const WEIGHTS: [Weighted<Call>; 11] = [
     ("hop", 10, Call::Hop),
     ("region", 8, Call::Region),
     ("drive", 12, Call::Drive),
+    ("check", 15, Call::Check),
     ("read", 17, Call::Read),
     ("write", 7, Call::Write),
 ];
@@ -78,6 +80,11 @@ fn lend_buffers(random: &mut Random, case: &mut Case) {
         case.before.route = (0..length).map(|_| random.word()).collect();
         let any = random.next() as u32;
         case.before.state = random.pick(&[0, 1, u32::MAX, any, any, any]);
+    }
+    if case.call == Call::Check {
+        let (names, drawn) = drawings::draw(random, case);
+        case.notes.extend(names);
+        case.before.drawn = drawn;
     }
     if case.call == Call::Write {
         let digits = |side: usize| if side < 10 { 1 } else { 2 };

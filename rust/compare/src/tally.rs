@@ -1,7 +1,7 @@
 //! What was reached: how often each call ended with each number, and how often each thing that
 //! cases are made of was used.
 use crate::case::{After, Call, Case, CALLS};
-use crate::{edits, harms, lists, making, mapfiles, maps, places};
+use crate::{drawings, edits, harms, lists, making, mapfiles, maps, places};
 use std::collections::BTreeMap;
 
 /// Refusal numbers go to this.
@@ -107,11 +107,44 @@ fn kinds(case: &Case, after: &After) -> Option<&'static str> {
         (Call::Hop, 0, _) => Some("answered: two hops"),
         (Call::Drive, 0, 1) => Some("answered: a drive of no hops"),
         (Call::Drive, 0, 61..) => Some("answered: a drive of 60 hops or more"),
+        (Call::Check, 0, reason) => Some(found(reason, after.answer[1].1, case.before.drawn.len())),
         (Call::Enter, 7, _) if case.count < case.before.list.len() => {
             Some("answered: no slot by the limit, though the list has one")
         }
         _ => None,
     }
+}
+
+/// What the check found: every reason at every kind of position at which it can be.
+const FOUND: [&str; 16] = [
+    "found: accepted, no hops",
+    "found: accepted, with hops",
+    "found: wrong start",
+    "found: off the map, at position 1",
+    "found: off the map, later",
+    "found: closed, at position 1",
+    "found: closed, later",
+    "found: not a neighbour, at position 1",
+    "found: not a neighbour, later",
+    "found: not nearer, at position 1",
+    "found: not nearer, later",
+    "found: ended early, empty",
+    "found: ended early, at position 1",
+    "found: ended early, later",
+    "found: went on, at position 1",
+    "found: went on, later",
+];
+
+/// Of an accepted list it is its length that tells its kind.
+fn found(reason: usize, position: usize, length: usize) -> &'static str {
+    let first = match reason {
+        0 => usize::from(length > 1),
+        1 => 2,
+        2..=5 => 2 * reason - 1 + usize::from(position > 1),
+        6 => 11 + position.min(2),
+        _ => 14 + usize::from(position > 1),
+    };
+    FOUND[first]
 }
 
 /// Everything that cases are made of.
@@ -132,6 +165,9 @@ fn names() -> Vec<&'static str> {
         "answered: no slot by the limit, though the list has one",
         "a list of no slots",
     ];
+    names.extend(FOUND);
+    names.extend(drawings::BEGINNINGS.iter().map(|(name, _, _)| *name));
+    names.extend(drawings::CHANGES.iter().map(|(name, _, _)| *name));
     names.extend(maps::SIZES.iter().map(|(name, _, _)| *name));
     names.extend(maps::SHAPES.iter().map(|(name, _, _)| *name));
     names.extend(places::PLACES.iter().map(|(name, _, _)| *name));

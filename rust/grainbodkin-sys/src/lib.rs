@@ -1,4 +1,4 @@
-//! The eleven calls of the proved static library, as `include/grainbodkin.h` declares them. A slice
+//! The twelve calls of the proved static library, as `include/grainbodkin.h` declares them. A slice
 //! goes as pointer and length.
 //!
 //! A pointer is not null, even where its length is 0; it is aligned for its type and points to as
@@ -73,6 +73,16 @@ pub struct Homeward {
 pub struct Drove {
     pub refusal: u8,
     pub length: usize,
+}
+
+/// What is found of a drawn list: the reason and the position of the first fault, both 0 for an
+/// accepted list; or the refusal.
+#[repr(C)]
+#[derive(Clone, Copy, Debug, PartialEq, Eq)]
+pub struct Checked {
+    pub refusal: u8,
+    pub reason: u8,
+    pub position: usize,
 }
 
 /// Width, height and number of markers of a map that was read, or the refusal.
@@ -216,6 +226,22 @@ extern "C" {
         route_len: usize,
         state: *mut u32,
     ) -> Drove;
+
+    pub fn bodkin_check(
+        list: *const Marker,
+        lent: usize,
+        count: usize,
+        width: usize,
+        height: usize,
+        sx: usize,
+        sy: usize,
+        dx: usize,
+        dy: usize,
+        labels: *mut u8,
+        labels_len: usize,
+        drawn: *const u16,
+        drawn_len: usize,
+    ) -> Checked;
 
     pub fn bodkin_read(file: *const u8, file_len: usize, list: *mut Marker, lent: usize)
         -> ReadMap;

@@ -1,9 +1,9 @@
 //! What Rust sees at the border, a line each: the size and alignment of every struct, each field's
-//! name, offset and size; the limits; and every refusal in words. tests/border/layout.c prints the
-//! same of C; tests/border/run compares the two.
-use grainbodkin::{Map, Refusal, LONGEST_FILE, MARKERS, NO_DISTANCE, SIDE, STACK};
+//! name, offset and size; the limits; and every refusal and reason in words. tests/border/layout.c
+//! prints the same of C; tests/border/run compares the two.
+use grainbodkin::{Map, Reason, Refusal, LONGEST_FILE, MARKERS, NO_DISTANCE, SIDE, STACK};
 use grainbodkin_sys::{
-    Assurance, Counted, Drove, Four, Homeward, Labelling, Marker, ReadMap, WroteMap,
+    Assurance, Checked, Counted, Drove, Four, Homeward, Labelling, Marker, ReadMap, WroteMap,
 };
 use std::mem::{align_of, offset_of, size_of, size_of_val};
 
@@ -73,6 +73,14 @@ fn main() {
         }
     );
     layout!(
+        "checked",
+        Checked {
+            refusal: 0,
+            reason: 0,
+            position: 0
+        }
+    );
+    layout!(
         "read_map",
         ReadMap {
             refusal: 0,
@@ -94,5 +102,8 @@ fn main() {
     println!("file {LONGEST_FILE}\nstack {STACK}");
     for refusal in Refusal::ALL {
         println!("{refusal}");
+    }
+    for reason in Reason::ALL {
+        println!("reason {}: {reason}", reason.number());
     }
 }

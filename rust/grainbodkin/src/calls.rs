@@ -1,4 +1,4 @@
-//! The eleven calls of the static library, lent slices in place of pointers and lengths. All of the
+//! The twelve calls of the static library, lent slices in place of pointers and lengths. All of the
 //! crate's `unsafe` is here.
 //!
 //! The library asks five things of its caller; for all else it answers or refuses. Four hold for
@@ -239,6 +239,34 @@ pub(crate) fn drive(
             route.as_mut_ptr(),
             route.len(),
             state,
+        )
+    }
+}
+
+pub(crate) fn check(
+    list: MarkersRef<'_>,
+    s: Place,
+    d: Place,
+    labels: &mut [u8],
+    drawn: &[u16],
+) -> sys::Checked {
+    // SAFETY: each pointer stands before its own slice's length. Only `labels` is written, and it
+    // is lent by `&mut`.
+    unsafe {
+        sys::bodkin_check(
+            pointer(list.slots),
+            list.slots.len(),
+            list.count,
+            list.width,
+            list.height,
+            s.x,
+            s.y,
+            d.x,
+            d.y,
+            labels.as_mut_ptr(),
+            labels.len(),
+            drawn.as_ptr(),
+            drawn.len(),
         )
     }
 }

@@ -2,9 +2,9 @@
 //!
 //! It keeps a list of rock markers, labels the crossings of one rectangular map, gives clear
 //! distances, tells whether home is assured, gives the region of shortest drives, makes a drive,
-//! gives single hops homeward, reads PBM (plain P1 and raw P4) and writes P4. The work is done by
-//! the proved static library `liblayer.a`; this crate lends its eleven calls in Rust's manner, with
-//! nothing `unsafe` in its interface.
+//! checks a drive that was drawn by hand, gives single hops homeward, reads PBM (plain P1 and raw
+//! P4) and writes P4. The work is done by the proved static library `liblayer.a`; this crate lends
+//! its twelve calls in Rust's manner, with nothing `unsafe` in its interface.
 //!
 //! A journey: read a map, label it, ask whether home is assured, hop home.
 //!
@@ -44,6 +44,7 @@
 mod askings;
 #[allow(unsafe_code)]
 mod calls;
+mod checks;
 mod distances;
 mod drives;
 mod hops;
@@ -56,6 +57,7 @@ mod refusal;
 
 pub use grainbodkin_sys::STACK;
 
+pub use checks::{Fault, Finding, Reason};
 pub use distances::{Clear, Distances, NO_DISTANCE};
 pub use drives::{Chooser, Drive, Region};
 pub use hops::Hops;

@@ -1,7 +1,9 @@
-//! The eleven calls in plain safe Rust, by the library's methods: what the library is measured against. Same interface, same refusals in the same
-//! order, same lent memory. No `unsafe`, nothing left out and nothing added to slow it down.
+//! The twelve calls in plain safe Rust, by the library's methods: what the library is measured
+//! against. Same interface, same refusals in the same order, same lent memory. No `unsafe`, nothing
+//! left out and nothing added to slow it down.
 #![forbid(unsafe_code)]
 
+mod checks;
 mod distances;
 mod drives;
 mod header;
@@ -18,7 +20,7 @@ mod writer;
 
 use crate::layer::{Layer, Listing};
 use grainbodkin_sys::{
-    Assurance, Counted, Drove, Four, Homeward, Labelling, Marker, ReadMap, WroteMap,
+    Assurance, Checked, Counted, Drove, Four, Homeward, Labelling, Marker, ReadMap, WroteMap,
 };
 use judging::{fits, prepare};
 use limits::*;
@@ -224,6 +226,27 @@ impl Layer for Plain {
                 length,
             },
         }
+    }
+
+    #[inline(never)]
+    fn check(
+        list: &[Marker],
+        count: usize,
+        w: usize,
+        h: usize,
+        sx: usize,
+        sy: usize,
+        dx: usize,
+        dy: usize,
+        labels: &mut [u8],
+        drawn: &[u16],
+    ) -> Checked {
+        let markers = match prepare(list, count, w, h, (sx, sy), (dx, dy), true, labels) {
+            Ok(markers) => markers,
+            Err(refusal) => return checks::refused(refusal),
+        };
+        labelling::label(markers, w, h, labels);
+        checks::check(labels, w, (sx, sy), (dx, dy), drawn)
     }
 
     #[inline(never)]
