@@ -1,7 +1,7 @@
 //! The calls that are measured, each made so many times over by one side.
 use crate::input::Input;
 use crate::layer::{Layer, Listing};
-use crate::plain::Stack;
+use crate::plain::{Looking, Stack};
 use crate::room::{Room, Window};
 use grainbodkin_sys::{
     Assurance, Checked, Counted, Drove, Four, Homeward, Labelling, Marker, ReadMap, WroteMap,
@@ -115,6 +115,18 @@ pub fn stack_again(input: &Input, room: &mut Room, times: usize) -> Answer {
     let (w, h) = black_box((input.side, input.side));
     let label = || Stack::label(list, n, w, h, &mut room.labels);
     Answer::Labelling(again(times, label))
+}
+
+/// The distances of the whole map by looking from each crossing, so many times.
+#[inline(never)]
+pub fn look_again(input: &Input, room: &mut Room, times: usize) -> Answer {
+    let (list, n) = (black_box(&input.list[..]), input.list.len());
+    let (w, h) = black_box((input.side, input.side));
+    let labels = &mut room.labels;
+    let (east, south) = (&mut room.east, &mut room.south);
+    let (west, north) = (&mut room.west, &mut room.north);
+    let measure = || Looking::measure(list, n, w, h, labels, east, south, west, north);
+    Answer::Refusal(again(times, measure))
 }
 
 /// One side's call, so many times over the same input into the same room, and the last answer. The room holds what the last call left.

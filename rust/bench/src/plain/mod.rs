@@ -342,3 +342,33 @@ impl Stack {
         }
     }
 }
+
+/// Measuring by looking along row and column again from each crossing. Not the library's method; it shows what the running numbers save.
+pub struct Looking;
+
+impl Looking {
+    #[inline(never)]
+    pub fn measure(
+        list: &[Marker],
+        count: usize,
+        w: usize,
+        h: usize,
+        labels: &mut [u8],
+        east: &mut [u8],
+        south: &mut [u8],
+        west: &mut [u8],
+        north: &mut [u8],
+    ) -> u8 {
+        let lengths = [east.len(), south.len(), west.len(), north.len()];
+        let others = lengths.iter().all(|&n| fits(w, h, n));
+        let markers = match prepare(list, count, w, h, (0, 0), (0, 0), others, labels) {
+            Ok(markers) => markers,
+            Err(refusal) => {
+                return refusal;
+            }
+        };
+        labelling::label(markers, w, h, labels);
+        distances::look_from_each(labels, w, east, south, west, north);
+        SUCCESS
+    }
+}
