@@ -161,7 +161,7 @@ pub fn repeat<L: Layer>(call: Call, input: &Input, room: &mut Room, times: usize
         }
         Call::Check => check_again::<L>(input, room, times),
         Call::ReadSheet => {
-            let read = || L::read_sheet(black_box(&input.drawn), &mut room.east);
+            let read = || L::read_sheet(black_box(&input.picture), &mut room.east);
             Answer::SheetRead(again(times, read))
         }
         Call::WriteSheet => {

@@ -20,7 +20,7 @@ pub struct Input {
     pub packed: Vec<u8>,
     /// A sheet of bytes, and the same as a P5 picture.
     pub sheet: Vec<u8>,
-    pub drawn: Vec<u8>,
+    pub picture: Vec<u8>,
     /// The ends of region and drive.
     pub s: Place,
     pub d: Place,
@@ -38,7 +38,7 @@ impl Input {
         let sheet: Vec<u8> = (0..side * side).map(|i| (i * 37 % 251) as u8).collect();
         let mut input = Input {
             side,
-            drawn: drawn(&sheet, side),
+            picture: picture(&sheet, side),
             sheet,
             list: markers(&map, side),
             text: text(&map, side),
@@ -157,7 +157,7 @@ fn packed(map: &[bool], side: usize) -> Vec<u8> {
 }
 
 /// A sheet as a P5 picture.
-fn drawn(sheet: &[u8], side: usize) -> Vec<u8> {
+fn picture(sheet: &[u8], side: usize) -> Vec<u8> {
     let mut file = format!("P5\n{side} {side}\n255\n").into_bytes();
     file.extend(sheet.chunks(side).rev().flatten());
     file
