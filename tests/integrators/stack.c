@@ -115,7 +115,7 @@ static void whole(char letter, int every) {
 }
 
 /* A P5 picture 64 by 64 whose header has so many comments. */
-static void drawn(size_t n) {
+static void picture(size_t n) {
     file_len = 0;
     append("P5 ", 3);
     for (size_t i = 0; i < n; i++) append("#\n", 2);
@@ -175,9 +175,9 @@ int main(void) {
     compare("write", write_map, "");
     compare_reading();
     compare("write_sheet", write_sheet, "");
-    drawn(0);
+    picture(0);
     compare("read_sheet", read_sheet, "no comments");
-    drawn(32000);
+    picture(32000);
     compare("read_sheet", read_sheet, "32000 comments");
     return failed != 0;
 }
