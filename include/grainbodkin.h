@@ -1,7 +1,7 @@
 /*
  * Grainbodkin: the obstacle layer for carts on a grid of crossings.
  *
- * The twelve calls of the static library, target/staticlib/liblayer.a. Each call answers by the
+ * The fourteen calls of the static library, target/staticlib/liblayer.a. Each call answers by the
  * lowest refusal that applies, or succeeds: for every value of every number and every content of
  * every buffer. What C cannot let a callee check is the caller's part: a pointer stands before its
  * length and points to so many elements, aligned for their type; what a call may write overlaps
@@ -40,14 +40,19 @@ extern "C" {
 
 /*
  * What they come to: the bytes of the largest sheet, the crossings of the longest drive, and the
- * bytes of the longest file that is written, "P4", LF, two digits, space, two digits, LF and rows.
+ * bytes of the longest file that is written, "P4", LF, two digits, space, two digits, LF and rows;
+ * and of the longest picture, which has four bytes more, "255" and LF, and a byte a crossing.
  */
 #define BODKIN_CROSSINGS (BODKIN_SIDE * BODKIN_SIDE)
 #define BODKIN_ROUTE (2 * BODKIN_SIDE - 1)
 #define BODKIN_FILE (9 + BODKIN_SIDE * ((BODKIN_SIDE + 7) / 8))
+#define BODKIN_PICTURE (13 + BODKIN_CROSSINGS)
 
 /* The most bytes of stack that a call is held to below its caller. */
 #define BODKIN_STACK 7168
+
+/* The largest value of a picture of distances. */
+#define BODKIN_LARGEST 255
 
 /* A label sheet's bytes. */
 #define BODKIN_OPEN 0
@@ -71,13 +76,15 @@ enum bodkin_refusal {
     BODKIN_NO_DRIVE = 9,         /* region or drive asked, both ends open, no shortest drive */
     BODKIN_SHORT_ROUTE = 10,     /* route buffer shorter than distance + 1 */
     BODKIN_NOT_ASSURED = 11,     /* hop asked, home not assured */
-    BODKIN_BAD_LETTERS = 12,     /* first two bytes are neither P1 nor P4, or fewer than two */
+    BODKIN_BAD_LETTERS = 12,     /* first two bytes are neither P1 nor P4, of a picture
+                                    not P5, or fewer than two */
     BODKIN_BAD_HEADER = 13,      /* header against the rules or cut short, or a foreign byte
                                     before a P1 raster's last digit */
     BODKIN_SHORT_RASTER = 14,    /* raster ends early */
     BODKIN_LONG_RASTER = 15,     /* bytes after the raster (in P1: other than blanks) */
     BODKIN_SHARED_CROSSING = 16, /* two markers on one crossing, when writing */
-    BODKIN_SHORT_OUTPUT = 17     /* output too short for the whole file */
+    BODKIN_SHORT_OUTPUT = 17,    /* output too short for the whole file */
+    BODKIN_BAD_LARGEST = 18      /* a picture's largest value is other than BODKIN_LARGEST */
 };
 
 /* Why a crossing of a drawn list is at fault. 0 is accepted. */
@@ -154,6 +161,19 @@ struct bodkin_read_map {
 struct bodkin_wrote_map {
     uint8_t refusal;
     size_t bytes;
+};
+
+/* How many bytes of a picture were written, or the refusal. */
+struct bodkin_sheet_written {
+    uint8_t refusal;
+    size_t bytes;
+};
+
+/* Width and height of a picture that was read, or the refusal. */
+struct bodkin_sheet_read {
+    uint8_t refusal;
+    size_t width;
+    size_t height;
 };
 
 /*
@@ -297,6 +317,24 @@ struct bodkin_wrote_map bodkin_write(const struct bodkin_marker *list, size_t le
                                      size_t width, size_t height, uint8_t *out, size_t out_len);
 
 /*
+ * Writes a sheet of one byte a crossing as a raw PGM picture, P5, north row first, and hands back
+ * the number of bytes written. Bytes past the end stay.
+ * Refuses 1, 2 or 17; then no byte changes.
+ */
+BODKIN_ANSWER
+struct bodkin_sheet_written bodkin_write_sheet(const uint8_t *sheet, size_t sheet_len, size_t width,
+                                               size_t height, uint8_t *out, size_t out_len);
+
+/*
+ * Reads a raw PGM picture, P5, into a sheet of its size, by crossing number, and hands back width
+ * and height. A sheet that is read is only bytes: nothing is said of it against any list.
+ * Refuses 12, 13, 1, 18, 2, 14 or 15, in this order; then no byte changes.
+ */
+BODKIN_ANSWER
+struct bodkin_sheet_read bodkin_read_sheet(const uint8_t *file, size_t file_len, uint8_t *sheet,
+                                           size_t sheet_len);
+
+/*
  * Entering and clearing with an id of any width: one over 65,535 is refused as document 01 has it,
  * 4 as a new id, for it is no id, and 6 when clearing, for it is not in use. Id 0 is refused so by
  * the calls themselves, on the same occasions, and after the same lower refusals.
@@ -316,7 +354,7 @@ static inline struct bodkin_counted bodkin_clear_wide(struct bodkin_marker *list
     return bodkin_clear(list, lent, count, width, height, (uint16_t)(id > UINT16_MAX ? 0 : id));
 }
 
-/* What a refusal says, in words; of 0 "done", and of a number over 17 that it is none. */
+/* What a refusal says, in words; of 0 "done", and of a number over 18 that it is none. */
 static inline const char *bodkin_refusal_text(uint8_t refusal) {
     switch (refusal) {
     case BODKIN_DONE: return "done";
@@ -333,7 +371,8 @@ static inline const char *bodkin_refusal_text(uint8_t refusal) {
     case BODKIN_NO_DRIVE: return "both ends are open, but there is no shortest drive";
     case BODKIN_SHORT_ROUTE: return "the route buffer is shorter than distance + 1";
     case BODKIN_NOT_ASSURED: return "home is not assured";
-    case BODKIN_BAD_LETTERS: return "the file does not start with P1 or P4";
+    case BODKIN_BAD_LETTERS:
+        return "the file does not start with P1 or P4, or the picture with P5";
     case BODKIN_BAD_HEADER:
         return "the header is against the rules or cut short, or a P1 raster has a byte before its "
                "last digit that is neither 0, 1 nor blank";
@@ -341,6 +380,7 @@ static inline const char *bodkin_refusal_text(uint8_t refusal) {
     case BODKIN_LONG_RASTER: return "there are bytes after the raster";
     case BODKIN_SHARED_CROSSING: return "two markers stand on one crossing";
     case BODKIN_SHORT_OUTPUT: return "the output is too short for the whole file";
+    case BODKIN_BAD_LARGEST: return "the picture's largest value is other than 255";
     default: return "no refusal has this number";
     }
 }

@@ -56,6 +56,13 @@ static void structs(void) {
     STRUCT(wrote_map);
     FIELD(wrote_map, refusal);
     FIELD(wrote_map, bytes);
+    STRUCT(sheet_written);
+    FIELD(sheet_written, refusal);
+    FIELD(sheet_written, bytes);
+    STRUCT(sheet_read);
+    FIELD(sheet_read, refusal);
+    FIELD(sheet_read, width);
+    FIELD(sheet_read, height);
 }
 
 int main(void) {
@@ -63,8 +70,9 @@ int main(void) {
     printf("side %d\nmarkers %d\n", BODKIN_SIDE, BODKIN_MARKERS);
     printf("no distance %d\n", BODKIN_NO_DISTANCE);
     printf("crossings %d\nroute %d\nfile %d\n", BODKIN_CROSSINGS, BODKIN_ROUTE, BODKIN_FILE);
+    printf("picture %d\nlargest %d\n", BODKIN_PICTURE, BODKIN_LARGEST);
     printf("stack %d\n", BODKIN_STACK);
-    for (int number = BODKIN_BAD_SIZE; number <= BODKIN_SHORT_OUTPUT; number++)
+    for (int number = BODKIN_BAD_SIZE; number <= BODKIN_BAD_LARGEST; number++)
         printf("refused %d: %s\n", number, bodkin_refusal_text((uint8_t)number));
     for (int number = BODKIN_WRONG_START; number <= BODKIN_WENT_ON; number++)
         printf("reason %d: %s\n", number, bodkin_reason_text((uint8_t)number));

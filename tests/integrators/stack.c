@@ -19,7 +19,7 @@ static unsigned char stack[ROOM];
 static ucontext_t here, there;
 static struct bodkin_marker list[BODKIN_MARKERS + 1], freed[BODKIN_MARKERS];
 static size_t count;
-static uint8_t labels[CROSSINGS], region[CROSSINGS], ways[4][CROSSINGS], out[1024];
+static uint8_t labels[CROSSINGS], region[CROSSINGS], ways[4][CROSSINGS], out[BODKIN_PICTURE];
 static uint8_t file[FILE_ROOM];
 static size_t file_len;
 static uint16_t route[2 * SIDE], drawn[2 * SIDE];
@@ -50,6 +50,8 @@ static void drive(void) { refusal = bodkin_drive(LIST, ENDS, LABELS, region, CRO
 static void check(void) { refusal = bodkin_check(LIST, ENDS, LABELS, drawn, drawn_len).refusal; }
 static void read_map(void) { refusal = bodkin_read(file, file_len, freed, BODKIN_MARKERS).refusal; }
 static void write_map(void) { refusal = bodkin_write(LIST, out, sizeof out).refusal; }
+static void write_sheet(void) { refusal = bodkin_write_sheet(LABELS, SIDE, SIDE, out, sizeof out).refusal; }
+static void read_sheet(void) { refusal = bodkin_read_sheet(file, file_len, LABELS).refusal; }
 
 /* The bytes between the stack's top and the lowest one that the call changed. */
 static size_t depth(void (*call)(void)) {
@@ -112,6 +114,15 @@ static void whole(char letter, int every) {
         }
 }
 
+/* A P5 picture 64 by 64 whose header has so many comments. */
+static void picture(size_t n) {
+    file_len = 0;
+    append("P5 ", 3);
+    for (size_t i = 0; i < n; i++) append("#\n", 2);
+    append("64 64 255 ", 10);
+    append(ways, CROSSINGS);
+}
+
 static void read_table(void) {
     while (table_len < sizeof table / sizeof *table && scanf("%15s %zu", table[table_len].call, &table[table_len].bytes) == 2) table_len++;
 }
@@ -129,7 +140,7 @@ static void compare(const char *name, void (*call)(void), const char *with) {
     rocks();
     size_t bytes = used(call), most = held_to(name);
     int good = refusal == 0 && bytes <= most;
-    printf("%s: %-10s%-22s %8zu bytes of stack, at most %zu\n", good ? "ok" : "FAILED", name, with, bytes, most);
+    printf("%s: %-12s%-22s %8zu bytes of stack, at most %zu\n", good ? "ok" : "FAILED", name, with, bytes, most);
     failed += !good;
 }
 
@@ -163,5 +174,10 @@ int main(void) {
     compare("check", check, "");
     compare("write", write_map, "");
     compare_reading();
+    compare("write_sheet", write_sheet, "");
+    picture(0);
+    compare("read_sheet", read_sheet, "no comments");
+    picture(32000);
+    compare("read_sheet", read_sheet, "32000 comments");
     return failed != 0;
 }

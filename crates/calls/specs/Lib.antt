@@ -27,3 +27,5 @@ pub mod Sharing
 pub mod ListRead
 pub mod RoundLaws
 pub mod RoundTrip
+pub mod PictureCalls
+pub mod PictureTrips

@@ -75,3 +75,18 @@ pub struct Checked {
     pub reason: u8,
     pub position: usize,
 }
+
+// How many bytes of a picture were written, or the refusal.
+#[repr(C)]
+pub struct SheetWritten {
+    pub refusal: u8,
+    pub bytes: usize,
+}
+
+// Width and height of a picture that was read, or the refusal.
+#[repr(C)]
+pub struct SheetRead {
+    pub refusal: u8,
+    pub width: usize,
+    pub height: usize,
+}

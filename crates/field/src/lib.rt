@@ -15,6 +15,9 @@ pub const MOST_MARKERS: usize = 4096;
 // "... or 255 if there is none."
 pub const NO_DISTANCE: u8 = 255;
 
+// "the largest value as a third number that must be 255" (document 02, Req 03)
+pub const LARGEST: usize = 255;
+
 // A rock marker: a sixteen-bit id and the crossing on which it stands, laid out for C.
 #[repr(C)]
 pub struct Marker {

@@ -1,6 +1,7 @@
 // The public calls over the lent list of marker records. No call relies on its caller: each answers
 // by the lowest refusal that applies, or succeeds.
 pub mod files; // files.rt: the two map-file calls
+mod pictures; // pictures.rt: the two picture calls
 mod preparing; // preparing.rt: the first part of every asking
 pub mod route; // route.rt: the drive, of which a part of the route is handed back
 

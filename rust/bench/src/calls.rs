@@ -4,7 +4,8 @@ use crate::layer::{Layer, Listing};
 use crate::plain::{Looking, Stack};
 use crate::room::{Room, Window};
 use grainbodkin_sys::{
-    Assurance, Checked, Counted, Drove, Four, Homeward, Labelling, Marker, ReadMap, WroteMap,
+    Assurance, Checked, Counted, Drove, Four, Homeward, Labelling, Marker, ReadMap, SheetRead,
+    SheetWritten, WroteMap,
 };
 use std::hint::black_box;
 
@@ -24,10 +25,12 @@ pub enum Call {
     ReadPlain,
     ReadRaw,
     Write,
+    ReadSheet,
+    WriteSheet,
 }
 
 /// Every call with its name.
-pub const CALLS: [(&str, Call); 13] = [
+pub const CALLS: [(&str, Call); 15] = [
     ("label", Call::Label),
     ("measure", Call::Measure),
     ("distances", Call::Distances),
@@ -41,6 +44,8 @@ pub const CALLS: [(&str, Call); 13] = [
     ("read-p1", Call::ReadPlain),
     ("read-p4", Call::ReadRaw),
     ("write", Call::Write),
+    ("read-p5", Call::ReadSheet),
+    ("write-p5", Call::WriteSheet),
 ];
 
 impl Call {
@@ -60,6 +65,7 @@ impl Call {
             | Call::Region
             | Call::Drive
             | Call::Check => &["empty", "sparse", "dense", "blocks", "lattice-2"],
+            Call::ReadSheet | Call::WriteSheet => &["sparse"],
             _ => &["sparse", "dense", "full"],
         }
     }
@@ -78,6 +84,8 @@ pub enum Answer {
     Counted(Counted),
     ReadMap(ReadMap),
     WroteMap(WroteMap),
+    SheetRead(SheetRead),
+    SheetWritten(SheetWritten),
 }
 
 impl Answer {
@@ -93,6 +101,8 @@ impl Answer {
             Answer::Counted(a) => a.refusal,
             Answer::ReadMap(a) => a.refusal,
             Answer::WroteMap(a) => a.refusal,
+            Answer::SheetRead(a) => a.refusal,
+            Answer::SheetWritten(a) => a.refusal,
         }
     }
 }
@@ -150,6 +160,14 @@ pub fn repeat<L: Layer>(call: Call, input: &Input, room: &mut Room, times: usize
             Answer::WroteMap(again(times, write))
         }
         Call::Check => check_again::<L>(input, room, times),
+        Call::ReadSheet => {
+            let read = || L::read_sheet(black_box(&input.picture), &mut room.east);
+            Answer::SheetRead(again(times, read))
+        }
+        Call::WriteSheet => {
+            let write = || L::write_sheet(black_box(&input.sheet), w, h, &mut room.out);
+            Answer::SheetWritten(again(times, write))
+        }
         Call::Region | Call::Drive => drive_again::<L>(call, input, room, times),
         _ => ask_again::<L>(call, input, room, times),
     }

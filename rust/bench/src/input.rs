@@ -18,6 +18,9 @@ pub struct Input {
     /// The map as a P1 file with a row a line, and as a P4 file.
     pub text: Vec<u8>,
     pub packed: Vec<u8>,
+    /// A sheet of bytes, and the same as a P5 picture.
+    pub sheet: Vec<u8>,
+    pub picture: Vec<u8>,
     /// The ends of region and drive.
     pub s: Place,
     pub d: Place,
@@ -32,8 +35,11 @@ impl Input {
     /// The map of this name, or none where there is no such name.
     pub fn new(name: &str, side: usize) -> Option<Input> {
         let map = maps::rocks(name, side)?;
+        let sheet: Vec<u8> = (0..side * side).map(|i| (i * 37 % 251) as u8).collect();
         let mut input = Input {
             side,
+            picture: picture(&sheet, side),
+            sheet,
             list: markers(&map, side),
             text: text(&map, side),
             packed: packed(&map, side),
@@ -147,5 +153,12 @@ fn packed(map: &[bool], side: usize) -> Vec<u8> {
             file.push(bits.fold(0, |byte, (j, &rock)| byte | (rock as u8) << (7 - j)));
         }
     }
+    file
+}
+
+/// A sheet as a P5 picture.
+fn picture(sheet: &[u8], side: usize) -> Vec<u8> {
+    let mut file = format!("P5\n{side} {side}\n255\n").into_bytes();
+    file.extend(sheet.chunks(side).rev().flatten());
     file
 }

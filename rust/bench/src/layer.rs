@@ -1,7 +1,8 @@
-//! The twelve calls as both sides have them: over lent slices, with the answers of
+//! The fourteen calls as both sides have them: over lent slices, with the answers of
 //! `grainbodkin-sys`.
 use grainbodkin_sys::{
-    Assurance, Checked, Counted, Drove, Four, Homeward, Labelling, Marker, ReadMap, WroteMap,
+    Assurance, Checked, Counted, Drove, Four, Homeward, Labelling, Marker, ReadMap, SheetRead,
+    SheetWritten, WroteMap,
 };
 
 /// The two calls that change the list.
@@ -19,7 +20,7 @@ pub trait Listing {
     fn clear(list: &mut [Marker], count: usize, w: usize, h: usize, id: u16) -> Counted;
 }
 
-/// All twelve.
+/// All fourteen.
 pub trait Layer: Listing {
     fn label(list: &[Marker], count: usize, w: usize, h: usize, labels: &mut [u8]) -> Labelling;
 
@@ -113,4 +114,8 @@ pub trait Layer: Listing {
     fn read(file: &[u8], list: &mut [Marker]) -> ReadMap;
 
     fn write(list: &[Marker], count: usize, w: usize, h: usize, out: &mut [u8]) -> WroteMap;
+
+    fn write_sheet(sheet: &[u8], w: usize, h: usize, out: &mut [u8]) -> SheetWritten;
+
+    fn read_sheet(file: &[u8], sheet: &mut [u8]) -> SheetRead;
 }

@@ -3,7 +3,8 @@
 use crate::layer::{Layer, Listing};
 use grainbodkin_sys as sys;
 use sys::{
-    Assurance, Checked, Counted, Drove, Four, Homeward, Labelling, Marker, ReadMap, WroteMap,
+    Assurance, Checked, Counted, Drove, Four, Homeward, Labelling, Marker, ReadMap, SheetRead,
+    SheetWritten, WroteMap,
 };
 
 pub struct Library;
@@ -225,5 +226,16 @@ impl Layer for Library {
     fn write(list: &[Marker], count: usize, w: usize, h: usize, out: &mut [u8]) -> WroteMap {
         let n = out.len();
         unsafe { sys::bodkin_write(list.as_ptr(), list.len(), count, w, h, out.as_mut_ptr(), n) }
+    }
+
+    fn write_sheet(sheet: &[u8], w: usize, h: usize, out: &mut [u8]) -> SheetWritten {
+        let n = out.len();
+        unsafe { sys::bodkin_write_sheet(sheet.as_ptr(), sheet.len(), w, h, out.as_mut_ptr(), n) }
+    }
+
+    fn read_sheet(file: &[u8], sheet: &mut [u8]) -> SheetRead {
+        unsafe {
+            sys::bodkin_read_sheet(file.as_ptr(), file.len(), sheet.as_mut_ptr(), sheet.len())
+        }
     }
 }

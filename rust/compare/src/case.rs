@@ -3,7 +3,7 @@
 use independent::map::{Crossing, Map};
 use independent::markers::Marker;
 
-/// The twelve calls.
+/// The fourteen calls.
 #[derive(Clone, Copy, Debug, PartialEq, Eq)]
 pub enum Call {
     Enter,
@@ -18,9 +18,11 @@ pub enum Call {
     Check,
     Read,
     Write,
+    WriteSheet,
+    ReadSheet,
 }
 
-pub const CALLS: [Call; 12] = [
+pub const CALLS: [Call; 14] = [
     Call::Enter,
     Call::Clear,
     Call::Label,
@@ -33,6 +35,8 @@ pub const CALLS: [Call; 12] = [
     Call::Check,
     Call::Read,
     Call::Write,
+    Call::WriteSheet,
+    Call::ReadSheet,
 ];
 
 impl Call {
@@ -50,10 +54,12 @@ impl Call {
             Call::Check => "check",
             Call::Read => "read",
             Call::Write => "write",
+            Call::WriteSheet => "picture",
+            Call::ReadSheet => "pictured",
         }
     }
 
-    /// Success and the refusals that document 01's table makes possible for the call.
+    /// Success and the refusals that are possible for the call.
     pub fn possible(self) -> &'static [u8] {
         match self {
             Call::Enter => &[0, 1, 3, 4, 5, 7],
@@ -68,6 +74,8 @@ impl Call {
             Call::Check => &[0, 1, 2, 3, 4, 8],
             Call::Read => &[0, 1, 7, 12, 13, 14, 15],
             Call::Write => &[0, 1, 3, 16, 17],
+            Call::WriteSheet => &[0, 1, 2, 17],
+            Call::ReadSheet => &[0, 1, 2, 12, 13, 14, 15, 18],
         }
     }
 
@@ -99,6 +107,8 @@ pub struct Memory {
     /// East, south, west, north.
     pub sheets: [Vec<u8>; 4],
     pub region: Vec<u8>,
+    /// The sheet of a picture.
+    pub picture: Vec<u8>,
     pub route: Vec<u16>,
     pub state: u32,
     /// A drawn list, which is only read.

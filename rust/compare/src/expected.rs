@@ -1,7 +1,7 @@
 //! What the independent program says of a case.
 use crate::case::{After, Call, Case, Memory};
 use independent::asking::Asking;
-use independent::{checks, distances, drives, files, hops, labels, markers};
+use independent::{checks, distances, drives, files, hops, labels, markers, pictures};
 
 /// The independent program's answer and memory after the call.
 pub fn expect(case: &Case) -> After {
@@ -18,6 +18,8 @@ pub fn expect(case: &Case) -> After {
         Call::Check => check(case, &mut memory),
         Call::Read => read(case, &mut memory),
         Call::Write => write(case, &mut memory),
+        Call::WriteSheet => write_sheet(case, &mut memory),
+        Call::ReadSheet => read_sheet(case, &mut memory),
     };
     After {
         refusal,
@@ -139,4 +141,17 @@ fn write(case: &Case, memory: &mut Memory) -> Answer {
     let after = files::write(&case.before.list, case.count, case.map, &case.before.out);
     memory.out = after.out;
     (after.refusal, vec![("bytes", after.bytes)])
+}
+
+fn write_sheet(case: &Case, memory: &mut Memory) -> Answer {
+    let after = pictures::write(&case.before.picture, case.map, &case.before.out);
+    memory.out = after.out;
+    (after.refusal, vec![("bytes", after.bytes)])
+}
+
+fn read_sheet(case: &Case, memory: &mut Memory) -> Answer {
+    let after = pictures::read(&case.before.file, &case.before.picture);
+    memory.picture = after.sheet;
+    let answer = vec![("width", after.width), ("height", after.height)];
+    (after.refusal, answer)
 }

@@ -21,6 +21,8 @@ pub fn run(case: &Case) -> (After, Vec<&'static str>) {
         Call::Check => check(case, &mut lent),
         Call::Read => read(case, &mut lent),
         Call::Write => write(case, &mut lent),
+        Call::WriteSheet => write_sheet(case, &mut lent),
+        Call::ReadSheet => read_sheet(case, &mut lent),
     };
     let after = After {
         refusal,
@@ -281,4 +283,31 @@ fn write(case: &Case, lent: &mut Lendings) -> Answer {
         )
     };
     (after.refusal, vec![("bytes", after.bytes)])
+}
+
+fn write_sheet(case: &Case, lent: &mut Lendings) -> Answer {
+    let after = unsafe {
+        sys::bodkin_write_sheet(
+            lent.picture.pointer(),
+            lent.picture.len(),
+            case.map.width,
+            case.map.height,
+            lent.out.pointer(),
+            lent.out.len(),
+        )
+    };
+    (after.refusal, vec![("bytes", after.bytes)])
+}
+
+fn read_sheet(_: &Case, lent: &mut Lendings) -> Answer {
+    let after = unsafe {
+        sys::bodkin_read_sheet(
+            lent.file.pointer(),
+            lent.file.len(),
+            lent.picture.pointer(),
+            lent.picture.len(),
+        )
+    };
+    let answer = vec![("width", after.width), ("height", after.height)];
+    (after.refusal, answer)
 }

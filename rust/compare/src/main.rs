@@ -22,6 +22,7 @@ mod making;
 mod mapfiles;
 mod maps;
 mod options;
+mod picturefiles;
 mod places;
 mod program;
 mod random;

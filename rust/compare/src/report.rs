@@ -30,6 +30,11 @@ pub fn differences(expected: &After, seen: &After) -> Vec<String> {
         lines.extend(buffer(&name, &want.sheets[way], &got.sheets[way]));
     }
     lines.extend(buffer("region sheet, crossing", &want.region, &got.region));
+    lines.extend(buffer(
+        "picture's sheet, crossing",
+        &want.picture,
+        &got.picture,
+    ));
     lines.extend(buffer("route, place", &want.route, &got.route));
     lines.extend(buffer("state, number", &[want.state], &[got.state]));
     lines.extend(buffer("drawn list, position", &want.drawn, &got.drawn));

@@ -1,11 +1,11 @@
 //! What was reached: how often each call ended with each number, and how often each thing that
 //! cases are made of was used.
 use crate::case::{After, Call, Case, CALLS};
-use crate::{drawings, edits, harms, lists, making, mapfiles, maps, places};
+use crate::{drawings, edits, harms, lists, making, mapfiles, maps, picturefiles, places};
 use std::collections::BTreeMap;
 
 /// Refusal numbers go to this.
-const LAST: usize = 17;
+const LAST: usize = 18;
 
 /// A run with fewer cases is not held to reach everything.
 pub const WHOLE: u64 = 100_000;
@@ -154,6 +154,7 @@ fn names() -> Vec<&'static str> {
         "near or at 4,096 markers",
         "plain file",
         "raw file",
+        "picture",
         "pad bits of noise",
         "answered: not assured",
         "answered: assured",
@@ -176,6 +177,7 @@ fn names() -> Vec<&'static str> {
     names.extend(harms::SIZE_HARMS.iter().map(|(name, _)| *name));
     names.extend(harms::SHEET_HARMS.iter().map(|(name, _)| *name));
     names.extend(harms::PLACE_HARMS.iter().map(|(name, _)| *name));
+    names.extend(picturefiles::PICTURE_HARMS.iter().map(|(name, _)| *name));
     names.extend(mapfiles::NOISES.iter().map(|(name, _)| *name));
     names.extend(edits::EDITS.iter().map(|(name, _)| *name));
     names.extend(edits::BYTE_EDITS.iter().map(|(name, _)| *name));
@@ -206,7 +208,7 @@ mod tests {
         let mut tally = Tally::new();
         let case = making::make(1, 1);
         let (mut after, _) = library::run(&case);
-        for strange in [18, 255] {
+        for strange in [19, 255] {
             after.refusal = strange;
             tally.count(&case, &after);
         }

@@ -17,5 +17,6 @@ pub mod hops;
 pub mod labels;
 pub mod map;
 pub mod markers;
+pub mod pictures;
 pub mod refusals;
 pub mod text;

@@ -1,4 +1,4 @@
-//! The twelve calls in plain safe Rust, by the library's methods: what the library is measured
+//! The fourteen calls in plain safe Rust, by the library's methods: what the library is measured
 //! against. Same interface, same refusals in the same order, same lent memory. No `unsafe`, nothing
 //! left out and nothing added to slow it down.
 #![forbid(unsafe_code)]
@@ -11,6 +11,7 @@ mod hops;
 mod judging;
 mod labelling;
 mod limits;
+mod pictures;
 mod raster;
 mod reader;
 mod records;
@@ -20,7 +21,8 @@ mod writer;
 
 use crate::layer::{Layer, Listing};
 use grainbodkin_sys::{
-    Assurance, Checked, Counted, Drove, Four, Homeward, Labelling, Marker, ReadMap, WroteMap,
+    Assurance, Checked, Counted, Drove, Four, Homeward, Labelling, Marker, ReadMap, SheetRead,
+    SheetWritten, WroteMap,
 };
 use judging::{fits, prepare};
 use limits::*;
@@ -274,6 +276,33 @@ impl Layer for Plain {
             Ok(bytes) => WroteMap {
                 refusal: SUCCESS,
                 bytes,
+            },
+        }
+    }
+
+    #[inline(never)]
+    fn write_sheet(sheet: &[u8], w: usize, h: usize, out: &mut [u8]) -> SheetWritten {
+        match pictures::write(sheet, w, h, out) {
+            Err(refusal) => SheetWritten { refusal, bytes: 0 },
+            Ok(bytes) => SheetWritten {
+                refusal: SUCCESS,
+                bytes,
+            },
+        }
+    }
+
+    #[inline(never)]
+    fn read_sheet(file: &[u8], sheet: &mut [u8]) -> SheetRead {
+        match pictures::read(file, sheet) {
+            Err(refusal) => SheetRead {
+                refusal,
+                width: 0,
+                height: 0,
+            },
+            Ok((width, height)) => SheetRead {
+                refusal: SUCCESS,
+                width,
+                height,
             },
         }
     }

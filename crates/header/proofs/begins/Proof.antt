@@ -2,9 +2,9 @@
 -- all hold.
 use native.Mathlib.Omega.{arith}
 use borrow.Author.Needs.{needs}
 use Rattle.header.specs.Answers.{answer-no}
-use Rattle.reader.proofs.begins.Statement.{statement}
-use Rattle.reader.proofs.begins.Tie as tie
+use Rattle.header.proofs.begins.Statement.{statement}
+use Rattle.header.proofs.begins.Tie as tie
 
 returns : tie.Need-returns
 returns c = answer-no (λ s. omega (arith, s .long))
