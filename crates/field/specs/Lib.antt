@@ -10,6 +10,7 @@ pub mod Distances
 pub mod Hops
 pub mod Drives
 pub mod Chooser
+pub mod CrossingLines
 pub mod Limits
 pub mod Workings
 pub mod Geometry
