@@ -1,7 +1,7 @@
 /*
  * Grainbodkin: the obstacle layer for carts on a grid of crossings.
  *
- * The eleven calls of the static library, target/staticlib/liblayer.a. Each call answers by the
+ * The fourteen calls of the static library, target/staticlib/liblayer.a. Each call answers by the
  * lowest refusal that applies, or succeeds: for every value of every number and every content of
  * every buffer. What C cannot let a callee check is the caller's part: a pointer stands before its
  * length and points to so many elements, aligned for their type; what a call may write overlaps
@@ -40,14 +40,19 @@ extern "C" {
 
 /*
  * What they come to: the bytes of the largest sheet, the crossings of the longest drive, and the
- * bytes of the longest file that is written, "P4", LF, two digits, space, two digits, LF and rows.
+ * bytes of the longest file that is written, "P4", LF, two digits, space, two digits, LF and rows;
+ * and of the longest picture, which has four bytes more, "255" and LF, and a byte a crossing.
  */
 #define BODKIN_CROSSINGS (BODKIN_SIDE * BODKIN_SIDE)
 #define BODKIN_ROUTE (2 * BODKIN_SIDE - 1)
 #define BODKIN_FILE (9 + BODKIN_SIDE * ((BODKIN_SIDE + 7) / 8))
+#define BODKIN_PICTURE (13 + BODKIN_CROSSINGS)
 
 /* The most bytes of stack that a call is held to below its caller. */
 #define BODKIN_STACK 7168
+
+/* The largest value of a picture of distances. */
+#define BODKIN_LARGEST 255
 
 /* A label sheet's bytes. */
 #define BODKIN_OPEN 0
@@ -66,17 +71,32 @@ enum bodkin_refusal {
     BODKIN_ID_NOT_IN_USE = 6,    /* clearing an id not in use */
     BODKIN_NO_SLOT = 7,          /* count, or a file's rocks, would pass the list lent or
                                     BODKIN_MARKERS */
-    BODKIN_END_CLOSED = 8,       /* assurance, hop, region or drive asked, an end closed */
+    BODKIN_END_CLOSED = 8,       /* assurance, hop, region, drive or check asked, an end
+                                    closed */
     BODKIN_NO_DRIVE = 9,         /* region or drive asked, both ends open, no shortest drive */
     BODKIN_SHORT_ROUTE = 10,     /* route buffer shorter than distance + 1 */
     BODKIN_NOT_ASSURED = 11,     /* hop asked, home not assured */
-    BODKIN_BAD_LETTERS = 12,     /* first two bytes are neither P1 nor P4, or fewer than two */
+    BODKIN_BAD_LETTERS = 12,     /* first two bytes are neither P1 nor P4, of a picture
+                                    not P5, or fewer than two */
     BODKIN_BAD_HEADER = 13,      /* header against the rules or cut short, or a foreign byte
                                     before a P1 raster's last digit */
     BODKIN_SHORT_RASTER = 14,    /* raster ends early */
     BODKIN_LONG_RASTER = 15,     /* bytes after the raster (in P1: other than blanks) */
     BODKIN_SHARED_CROSSING = 16, /* two markers on one crossing, when writing */
-    BODKIN_SHORT_OUTPUT = 17     /* output too short for the whole file */
+    BODKIN_SHORT_OUTPUT = 17,    /* output too short for the whole file */
+    BODKIN_BAD_LARGEST = 18      /* a picture's largest value is other than BODKIN_LARGEST */
+};
+
+/* Why a crossing of a drawn list is at fault. 0 is accepted. */
+enum bodkin_reason {
+    BODKIN_ACCEPTED = 0,
+    BODKIN_WRONG_START = 1,     /* the first number is not that of s */
+    BODKIN_OFF_THE_MAP = 2,     /* no crossing of the map has the number */
+    BODKIN_IS_CLOSED = 3,       /* the crossing is closed */
+    BODKIN_NOT_A_NEIGHBOUR = 4, /* it is no neighbour of the one before */
+    BODKIN_NOT_NEARER = 5,      /* it is not nearer d than the one before */
+    BODKIN_ENDED_EARLY = 6,     /* the list ended before d */
+    BODKIN_WENT_ON = 7          /* the list went on after d */
 };
 
 /* A rock marker: an id, 1 to 65,535, and a crossing. Several may stand on one; each is kept. */
@@ -125,6 +145,12 @@ struct bodkin_drove {
     size_t length; /* crossings filled at the front of the route */
 };
 
+struct bodkin_checked {
+    uint8_t refusal;
+    uint8_t reason;  /* 0: accepted; otherwise why the crossing at `position` is at fault */
+    size_t position; /* from 0 on; of a list that ended early, its length */
+};
+
 struct bodkin_read_map {
     uint8_t refusal;
     size_t width;
@@ -135,6 +161,19 @@ struct bodkin_read_map {
 struct bodkin_wrote_map {
     uint8_t refusal;
     size_t bytes;
+};
+
+/* How many bytes of a picture were written, or the refusal. */
+struct bodkin_sheet_written {
+    uint8_t refusal;
+    size_t bytes;
+};
+
+/* Width and height of a picture that was read, or the refusal. */
+struct bodkin_sheet_read {
+    uint8_t refusal;
+    size_t width;
+    size_t height;
 };
 
 /*
@@ -246,6 +285,19 @@ struct bodkin_drove bodkin_drive(const struct bodkin_marker *list, size_t lent, 
                                  uint32_t *state);
 
 /*
+ * Checks a drawn list, crossing numbers in order: accepted exactly if it is a shortest drive from
+ * (sx, sy) to (dx, dy); otherwise the position of the first crossing at fault, and why. A crossing
+ * after d has gone on; at any other the reasons are tried in their order. The list is only read.
+ * The label sheet holds the labels.
+ * Refuses 1, 2, 3 or 4, and then no byte changes; or 8, and then the label sheet holds the labels.
+ */
+BODKIN_ANSWER
+struct bodkin_checked bodkin_check(const struct bodkin_marker *list, size_t lent, size_t count,
+                                   size_t width, size_t height, size_t sx, size_t sy, size_t dx,
+                                   size_t dy, uint8_t *labels, size_t labels_len,
+                                   const uint16_t *drawn, size_t drawn_len);
+
+/*
  * Reads a PBM map, P1 or P4. Its rocks become markers with ids 1, 2, 3 and on, in raster order, in
  * the first slots; other slots stay. Hands back width, height and the new count.
  * Refuses 12, then 13 in the header, 1, then at the first fault met in the raster 13, 14 or 15,
@@ -263,6 +315,24 @@ struct bodkin_read_map bodkin_read(const uint8_t *file, size_t file_len, struct 
 BODKIN_ANSWER
 struct bodkin_wrote_map bodkin_write(const struct bodkin_marker *list, size_t lent, size_t count,
                                      size_t width, size_t height, uint8_t *out, size_t out_len);
+
+/*
+ * Writes a sheet of one byte a crossing as a raw PGM picture, P5, north row first, and hands back
+ * the number of bytes written. Bytes past the end stay.
+ * Refuses 1, 2 or 17; then no byte changes.
+ */
+BODKIN_ANSWER
+struct bodkin_sheet_written bodkin_write_sheet(const uint8_t *sheet, size_t sheet_len, size_t width,
+                                               size_t height, uint8_t *out, size_t out_len);
+
+/*
+ * Reads a raw PGM picture, P5, into a sheet of its size, by crossing number, and hands back width
+ * and height. A sheet that is read is only bytes: nothing is said of it against any list.
+ * Refuses 12, 13, 1, 18, 2, 14 or 15, in this order; then no byte changes.
+ */
+BODKIN_ANSWER
+struct bodkin_sheet_read bodkin_read_sheet(const uint8_t *file, size_t file_len, uint8_t *sheet,
+                                           size_t sheet_len);
 
 /*
  * Entering and clearing with an id of any width: one over 65,535 is refused as document 01 has it,
@@ -284,7 +354,7 @@ static inline struct bodkin_counted bodkin_clear_wide(struct bodkin_marker *list
     return bodkin_clear(list, lent, count, width, height, (uint16_t)(id > UINT16_MAX ? 0 : id));
 }
 
-/* What a refusal says, in words; of 0 "done", and of a number over 17 that it is none. */
+/* What a refusal says, in words; of 0 "done", and of a number over 18 that it is none. */
 static inline const char *bodkin_refusal_text(uint8_t refusal) {
     switch (refusal) {
     case BODKIN_DONE: return "done";
@@ -301,7 +371,8 @@ static inline const char *bodkin_refusal_text(uint8_t refusal) {
     case BODKIN_NO_DRIVE: return "both ends are open, but there is no shortest drive";
     case BODKIN_SHORT_ROUTE: return "the route buffer is shorter than distance + 1";
     case BODKIN_NOT_ASSURED: return "home is not assured";
-    case BODKIN_BAD_LETTERS: return "the file does not start with P1 or P4";
+    case BODKIN_BAD_LETTERS:
+        return "the file does not start with P1 or P4, or the picture with P5";
     case BODKIN_BAD_HEADER:
         return "the header is against the rules or cut short, or a P1 raster has a byte before its "
                "last digit that is neither 0, 1 nor blank";
@@ -309,7 +380,23 @@ static inline const char *bodkin_refusal_text(uint8_t refusal) {
     case BODKIN_LONG_RASTER: return "there are bytes after the raster";
     case BODKIN_SHARED_CROSSING: return "two markers stand on one crossing";
     case BODKIN_SHORT_OUTPUT: return "the output is too short for the whole file";
+    case BODKIN_BAD_LARGEST: return "the picture's largest value is other than 255";
     default: return "no refusal has this number";
+    }
+}
+
+/* What a reason of a drawn list's fault says, in words; of 0 "accepted". */
+static inline const char *bodkin_reason_text(uint8_t reason) {
+    switch (reason) {
+    case BODKIN_ACCEPTED: return "accepted";
+    case BODKIN_WRONG_START: return "wrong start";
+    case BODKIN_OFF_THE_MAP: return "off the map";
+    case BODKIN_IS_CLOSED: return "closed";
+    case BODKIN_NOT_A_NEIGHBOUR: return "not a neighbour";
+    case BODKIN_NOT_NEARER: return "not nearer d";
+    case BODKIN_ENDED_EARLY: return "list ended early";
+    case BODKIN_WENT_ON: return "list went on after d";
+    default: return "no reason has this number";
     }
 }
 

@@ -1,7 +1,8 @@
 /*
  * What C sees at the border, a line each: the size and alignment of every struct, each field's
- * name, offset and size in the order of the offsets; the limits; and every refusal in words.
- * rust/grainbodkin/examples/border.rs prints the same of Rust; tests/border/run compares the two.
+ * name, offset and size in the order of the offsets; the limits; and every refusal and reason in
+ * words. rust/grainbodkin/examples/border.rs prints the same of Rust; tests/border/run compares the
+ * two.
  */
 #include <stdalign.h>
 #include <stdio.h>
@@ -43,6 +44,10 @@ static void structs(void) {
     STRUCT(drove);
     FIELD(drove, refusal);
     FIELD(drove, length);
+    STRUCT(checked);
+    FIELD(checked, refusal);
+    FIELD(checked, reason);
+    FIELD(checked, position);
     STRUCT(read_map);
     FIELD(read_map, refusal);
     FIELD(read_map, width);
@@ -51,6 +56,13 @@ static void structs(void) {
     STRUCT(wrote_map);
     FIELD(wrote_map, refusal);
     FIELD(wrote_map, bytes);
+    STRUCT(sheet_written);
+    FIELD(sheet_written, refusal);
+    FIELD(sheet_written, bytes);
+    STRUCT(sheet_read);
+    FIELD(sheet_read, refusal);
+    FIELD(sheet_read, width);
+    FIELD(sheet_read, height);
 }
 
 int main(void) {
@@ -58,8 +70,11 @@ int main(void) {
     printf("side %d\nmarkers %d\n", BODKIN_SIDE, BODKIN_MARKERS);
     printf("no distance %d\n", BODKIN_NO_DISTANCE);
     printf("crossings %d\nroute %d\nfile %d\n", BODKIN_CROSSINGS, BODKIN_ROUTE, BODKIN_FILE);
+    printf("picture %d\nlargest %d\n", BODKIN_PICTURE, BODKIN_LARGEST);
     printf("stack %d\n", BODKIN_STACK);
-    for (int number = BODKIN_BAD_SIZE; number <= BODKIN_SHORT_OUTPUT; number++)
+    for (int number = BODKIN_BAD_SIZE; number <= BODKIN_BAD_LARGEST; number++)
         printf("refused %d: %s\n", number, bodkin_refusal_text((uint8_t)number));
+    for (int number = BODKIN_WRONG_START; number <= BODKIN_WENT_ON; number++)
+        printf("reason %d: %s\n", number, bodkin_reason_text((uint8_t)number));
     return 0;
 }

@@ -1,6 +1,6 @@
 /*
- * What the header adds to the calls: names for the longest sheet, route and file, each as long as
- * it has to be; refusals in words; and entering and clearing with ids of any width. It is built as
+ * What the header adds to the calls: names for the longest sheet, route, file and picture, each as
+ * long as it has to be; refusals in words; and entering and clearing with ids of any width. It is built as
  * C and as C++.
  */
 #include "grainbodkin.h"
@@ -11,7 +11,8 @@
 enum { SLOTS = 4 };
 
 static struct bodkin_marker list[SLOTS];
-static uint8_t labels[BODKIN_CROSSINGS], region[BODKIN_CROSSINGS], out[BODKIN_FILE];
+static uint8_t labels[BODKIN_CROSSINGS], region[BODKIN_CROSSINGS];
+static uint8_t out[BODKIN_PICTURE];
 static uint16_t route[BODKIN_ROUTE];
 
 /* The drive across the largest map, into a route of so many slots. */
@@ -26,11 +27,17 @@ static struct bodkin_wrote_map largest(size_t bytes) {
     return bodkin_write(list, SLOTS, 0, BODKIN_SIDE, BODKIN_SIDE, out, bytes);
 }
 
+static struct bodkin_sheet_written drawn(size_t bytes) {
+    return bodkin_write_sheet(labels, BODKIN_CROSSINGS, BODKIN_SIDE, BODKIN_SIDE, out, bytes);
+}
+
 static void longest_of_each(void) {
     expect(longest(BODKIN_ROUTE).length == BODKIN_ROUTE, "BODKIN_ROUTE slots hold every drive");
     expect(longest(BODKIN_ROUTE - 1).refusal == BODKIN_SHORT_ROUTE, "one slot less does not");
     expect(largest(BODKIN_FILE).bytes == BODKIN_FILE, "BODKIN_FILE bytes hold every file");
     expect(largest(BODKIN_FILE - 1).refusal == BODKIN_SHORT_OUTPUT, "one byte less does not");
+    expect(drawn(BODKIN_PICTURE).bytes == BODKIN_PICTURE, "BODKIN_PICTURE bytes hold every picture");
+    expect(drawn(BODKIN_PICTURE - 1).refusal == BODKIN_SHORT_OUTPUT, "and one byte less does not");
 }
 
 static void texts(void) {
@@ -38,7 +45,7 @@ static void texts(void) {
     for (unsigned i = 0; i < 256; i++)
         for (unsigned j = 0; j < i; j++) {
             const char *one = bodkin_refusal_text((uint8_t)i), *other = bodkin_refusal_text((uint8_t)j);
-            all &= (strcmp(one, other) == 0) == (j > BODKIN_SHORT_OUTPUT);
+            all &= (strcmp(one, other) == 0) == (j > BODKIN_BAD_LARGEST);
         }
     expect(all, "every refusal has words of its own, and no other number has");
 }

@@ -19,10 +19,11 @@ static unsigned char stack[ROOM];
 static ucontext_t here, there;
 static struct bodkin_marker list[BODKIN_MARKERS + 1], freed[BODKIN_MARKERS];
 static size_t count;
-static uint8_t labels[CROSSINGS], region[CROSSINGS], ways[4][CROSSINGS], out[1024];
+static uint8_t labels[CROSSINGS], region[CROSSINGS], ways[4][CROSSINGS], out[BODKIN_PICTURE];
 static uint8_t file[FILE_ROOM];
 static size_t file_len;
-static uint16_t route[2 * SIDE];
+static uint16_t route[2 * SIDE], drawn[2 * SIDE];
+static size_t drawn_len;
 static uint32_t state;
 static int refusal;
 
@@ -46,8 +47,11 @@ static void assured(void) { refusal = bodkin_assured(LIST, ENDS, LABELS).refusal
 static void hop(void) { refusal = bodkin_hop(LIST, ENDS, LABELS).refusal; }
 static void make_region(void) { refusal = bodkin_region(LIST, ENDS, LABELS, region, CROSSINGS); }
 static void drive(void) { refusal = bodkin_drive(LIST, ENDS, LABELS, region, CROSSINGS, route, 2 * SIDE, &state).refusal; }
+static void check(void) { refusal = bodkin_check(LIST, ENDS, LABELS, drawn, drawn_len).refusal; }
 static void read_map(void) { refusal = bodkin_read(file, file_len, freed, BODKIN_MARKERS).refusal; }
 static void write_map(void) { refusal = bodkin_write(LIST, out, sizeof out).refusal; }
+static void write_sheet(void) { refusal = bodkin_write_sheet(LABELS, SIDE, SIDE, out, sizeof out).refusal; }
+static void read_sheet(void) { refusal = bodkin_read_sheet(file, file_len, LABELS).refusal; }
 
 /* The bytes between the stack's top and the lowest one that the call changed. */
 static size_t depth(void (*call)(void)) {
@@ -78,6 +82,13 @@ static void rocks(void) {
         }
 }
 
+/* A drawn list that is looked at to its end: east along the south edge, north along the east edge. */
+static void draw(void) {
+    drawn_len = 0;
+    for (size_t x = 0; x < SIDE; x++) drawn[drawn_len++] = (uint16_t)x;
+    for (size_t y = 1; y < SIDE; y++) drawn[drawn_len++] = (uint16_t)(y * SIDE + SIDE - 1);
+}
+
 /* Puts so many bytes at the end of the file. */
 static void append(const void *bytes, size_t n) {
     memcpy(file + file_len, bytes, n);
@@ -103,6 +114,15 @@ static void whole(char letter, int every) {
         }
 }
 
+/* A P5 picture 64 by 64 whose header has so many comments. */
+static void picture(size_t n) {
+    file_len = 0;
+    append("P5 ", 3);
+    for (size_t i = 0; i < n; i++) append("#\n", 2);
+    append("64 64 255 ", 10);
+    append(ways, CROSSINGS);
+}
+
 static void read_table(void) {
     while (table_len < sizeof table / sizeof *table && scanf("%15s %zu", table[table_len].call, &table[table_len].bytes) == 2) table_len++;
 }
@@ -120,7 +140,7 @@ static void compare(const char *name, void (*call)(void), const char *with) {
     rocks();
     size_t bytes = used(call), most = held_to(name);
     int good = refusal == 0 && bytes <= most;
-    printf("%s: %-10s%-22s %8zu bytes of stack, at most %zu\n", good ? "ok" : "FAILED", name, with, bytes, most);
+    printf("%s: %-12s%-22s %8zu bytes of stack, at most %zu\n", good ? "ok" : "FAILED", name, with, bytes, most);
     failed += !good;
 }
 
@@ -150,7 +170,14 @@ int main(void) {
     compare("hop", hop, "");
     compare("region", make_region, "");
     compare("drive", drive, "");
+    draw();
+    compare("check", check, "");
     compare("write", write_map, "");
     compare_reading();
+    compare("write_sheet", write_sheet, "");
+    picture(0);
+    compare("read_sheet", read_sheet, "no comments");
+    picture(32000);
+    compare("read_sheet", read_sheet, "32000 comments");
     return failed != 0;
 }

@@ -14,6 +14,8 @@ use Rattle.field.specs.Refusals.{no-slot, end-closed, not-assured}
 use Rattle.field.specs.Labels.{Stable, closed-stable, LabelSheet}
 use Rattle.field.specs.Distances.{Assured}
 use Rattle.field.specs.Hops.{HopAnswer, there, one, two, Answers}
+use Rattle.field.specs.declared.Finding.{Finding}
+use Rattle.field.specs.Checks.{Finds}
 use Rattle.field.specs.Workings.Sheet.{Marked}
 use Rattle.field.specs.Workings.Labelling.{label-sheet-draws}
 use Rattle.field.specs.Workings.SameLaws.{Alike, alike-back, assured-same, answers-same}
@@ -28,11 +30,13 @@ use Rattle.calls.specs.RuleLaws.{gives-reworded, gives-above, gives-none, holds
 use Rattle.calls.specs.Parts.{before}
 use Rattle.calls.specs.Answers.{Early, no-assurance, no-hop, no-crossings, homeward}
 use Rattle.calls.specs.AfterLaws.{labels-kept, labels-made, region-kept, route-kept}
-use Rattle.calls.specs.SameLaws.{assured-rows-same, hop-rows-same, region-rows-same, drive-rows-same, region-after-same, route-after-same}
+use Rattle.calls.specs.SameLaws.{assured-rows-same, hop-rows-same, region-rows-same, drive-rows-same, region-after-same, route-after-same, finds-same}
+use Rattle.calls.specs.CheckCall.{no-check}
 use Rattle.calls.specs.declared.Assurance.{Assurance}
 use Rattle.calls.specs.declared.Homeward.{Homeward}
 use Rattle.calls.specs.declared.Drove.{Drove}
-use Rattle.askings.specs.Promise.{ClosedOn, AssuredRest, HopRest, RegionRest, DriveRest, DriveTold}
+use Rattle.calls.specs.declared.Checked.{Checked}
+use Rattle.askings.specs.Promise.{ClosedOn, AssuredRest, HopRest, RegionRest, DriveRest, CheckRest, DriveTold}
 
 -- A refusal from before changes no lent byte.
 pub early-of : {n : ℕ} → ¬ (n ≡ 0) → n ≤ no-slot → Early n
@@ -132,6 +136,26 @@ module _ {w h : ℕ} {s t : List ℕ} (sheet : LabelSheet (Stones w h s) w h t) 
         open-ends (inl c) = a .home .free (marked-alike hx hy .1 c)
         open-ends (inr c) = a .place .free (marked-alike x y .1 c)
 
+    pub check-closed : {drawn : List ℕ} {r : Checked} → AnEndClosed (Marked t w h) hx hy x y → r ≡ no-check end-closed → CheckRest n w h hx hy x y s drawn t r
+    check-closed c e =
+        rw e
+        (record {
+          given = inr (λ f. f z, inl (ends-carried c, refl));
+          labels-after = labels-made (λ b. omega (arith, b .1)) sheet;
+          refused = λ _. refl;
+          done = λ k. absurd (omega arith);
+        })
+
+    pub check-told : {drawn : List ℕ} {f : Finding} → ¬ AnEndClosed (Marked t w h) hx hy x y → Finds w h (Marked t w h) hx hy x y drawn f
+        → CheckRest n w h hx hy x y s drawn t (record { refusal = 0; reason = f .reason; position = f .position })
+    check-told o k =
+        record {
+          given = inr (λ f. f z, inr (λ c. o (ends-back c), refl));
+          labels-after = labels-made (λ b. omega (arith, b .0)) sheet;
+          refused = λ f. absurd (f refl);
+          done = λ _. finds-same w h marked-alike k;
+        }
+
   module _ {n : ℕ} (z : n ≡ 0) {sx sy dx dy : ℕ} {g g′ : List ℕ} where
     -- What is refused by the rows that need the labels is no refusal from before.
     pub region-told : {r : ℕ} (found : Found) → Regioned w h t sx sy dx dy g g′ found → r ≡ foundNumber found → RegionRest n w h sx sy dx dy s g t g′ r
@@ -161,6 +185,10 @@ module _ {n w h : ℕ} {s : List ℕ} (f : ¬ (n ≡ 0)) (l : n ≤ no-slot) whe
 
   pub hop-before : {hx hy x y : ℕ} {r : Homeward} → r ≡ no-hop n → HopRest n w h hx hy x y s s r
   hop-before e =
+      rw e (record { given = inl (f, refl); labels-after = labels-kept (early-of f l); refused = λ _. refl; done = λ z. absurd (f z) })
+
+  pub check-before : {sx sy dx dy : ℕ} {drawn : List ℕ} {r : Checked} → r ≡ no-check n → CheckRest n w h sx sy dx dy s drawn s r
+  check-before e =
       rw e (record { given = inl (f, refl); labels-after = labels-kept (early-of f l); refused = λ _. refl; done = λ z. absurd (f z) })
 
   pub drive-before : {sx sy dx dy z : ℕ} {g route : List ℕ} {r : Drove} → r ≡ no-crossings n → DriveRest n w h sx sy dx dy s g route z s g route z r

@@ -13,6 +13,7 @@ use Rattle.field.specs.Map.{On}
 use Rattle.field.specs.Refusals.{no-slot}
 use Rattle.field.specs.Labels.{Closed}
 use Rattle.field.specs.Distances.{Distances, eastward, southward, westward, northward, Assured}
+use Rattle.field.specs.Checks.{Finds}
 use Rattle.labels.specs.Promise.{Stamped, Stones}
 use Rattle.drives.specs.declared.Made.{Made}
 use Rattle.drives.specs.Promise.{madeNumber, madeLength, madeState}
@@ -24,6 +25,8 @@ use Rattle.calls.specs.declared.Four.{Four}
 use Rattle.calls.specs.declared.Assurance.{Assurance}
 use Rattle.calls.specs.declared.Homeward.{Homeward}
 use Rattle.calls.specs.declared.Drove.{Drove}
+use Rattle.calls.specs.declared.Checked.{Checked}
+use Rattle.calls.specs.CheckCall.{check-rows, no-check, finding}
 
 -- The crossings that the rocks stamped on a sheet close.
 abbrev pub ClosedOn : ℕ → ℕ → List ℕ → ℕ → ℕ → Type 0
@@ -114,6 +117,13 @@ pub record RouteRest (n w h sx sy dx dy : ℕ) (s g route : List ℕ) (z : ℕ) 
   pub crossings : ℕ
   pub drove : DriveRest n w h sx sy dx dy s g route z s′ g′ route′ z′ (record { refusal = number; length = crossings })
   pub part-is : part ≡ take crossings route′
+
+-- check: drawn is the list that is checked
+pub record CheckRest (n w h sx sy dx dy : ℕ) (s drawn s′ : List ℕ) (r : Checked) : Type 0 where
+  pub given : Gives (before n ∷ check-rows (ClosedOn w h s) sx sy dx dy) (r .refusal)
+  pub labels-after : LabelsAfter (Stones w h s) w h (r .refusal) s s′
+  pub refused : ¬ (r .refusal ≡ 0) → r ≡ no-check (r .refusal)
+  pub done : r .refusal ≡ 0 → Finds w h (ClosedOn w h s) sx sy dx dy drawn (finding r)
 
 -- For the functions within: what the test of two ends tells, C being the closed crossings. Yes: an
 -- end is closed. No: none is.

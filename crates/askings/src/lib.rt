@@ -5,6 +5,7 @@
 mod telling; // telling.rt: what the crates below tell, as document 01's number and values
 
 use calls::Assurance;
+use calls::Checked;
 use calls::Drove;
 use calls::Four;
 use calls::Homeward;
@@ -13,9 +14,10 @@ use field::refusals::END_CLOSED;
 use field::refusals::NOT_ASSURED;
 use field::refusals::SUCCESS;
 ghost use Rattle.askings.specs.Promise.{MayLabel, MayAsk, MayAskTwo, MayMeasure, MayDrive};
-ghost use Rattle.askings.specs.Promise.{LabelRest, DistancesRest, MeasureRest, AssuredRest, HopRest, RegionRest, DriveRest, RouteRest};
+ghost use Rattle.askings.specs.Promise.{LabelRest, DistancesRest, MeasureRest, AssuredRest, HopRest, RegionRest, DriveRest, RouteRest, CheckRest};
 use telling::an_end_closed;
 use telling::no_assurance;
+use telling::no_check;
 use telling::no_crossings;
 use telling::no_hop;
 
@@ -218,4 +220,35 @@ pub fn route<'a>(
     *refusal = drove.refusal;
     let length = drove.length;
     &mut route[..length]
+}
+
+// The check of a drawn list against the shortest drives from (sx, sy) to (dx, dy). With an end
+// closed: refusal 8.
+pub fn check(
+    n: u8,
+    w: usize,
+    h: usize,
+    sx: usize,
+    sy: usize,
+    dx: usize,
+    dy: usize,
+    labels: &mut [u8],
+    drawn: &[u16],
+) -> Checked
+    requires { ⌜ MayAskTwo n w h sx sy dx dy (now labels) ⌝ }
+    ensures { λ r. ⌜ CheckRest n w h sx sy dx dy (now (labels .entry)) (now (drawn .entry)) (now (labels .exit)) r ⌝ }
+{
+    if n != UNREFUSED {
+        return no_check(n);
+    }
+    labels::label(labels, w, h);
+    if an_end_closed(labels, w, h, sx, sy, dx, dy) {
+        return no_check(END_CLOSED);
+    }
+    let finding = checks::check(labels, w, h, sx, sy, dx, dy, drawn);
+    Checked {
+        refusal: SUCCESS,
+        reason: finding.reason,
+        position: finding.position,
+    }
 }

@@ -1,6 +1,7 @@
 // What the crates below tell of a label sheet's marks, as document 01's number and values; and the
 // refusals, a number with zeros.
 use calls::Assurance;
+use calls::Checked;
 use calls::Drove;
 use calls::Homeward;
 use drives::Made;
@@ -16,6 +17,7 @@ ghost use Rattle.distances.specs.Promise.{AskedHome};
 ghost use Rattle.hops.specs.Promise.{answered};
 ghost use Rattle.regions.specs.Promise.{foundNumber};
 ghost use Rattle.calls.specs.Answers.{no-assurance, no-hop, no-crossings, homeward};
+ghost use Rattle.calls.specs.CheckCall.{no-check};
 ghost use Rattle.askings.specs.Promise.{EndsTold, DriveTold};
 
 // Whether one of two ends, (x, y) and (a, b), is closed.
@@ -40,7 +42,7 @@ pub fn an_end_closed(
     false
 }
 
-// A refused assurance, hop and drive.
+// A refused assurance, hop, drive and check.
 pub fn no_assurance(n: u8) -> Assurance
     ensures { λ r. ⌜ r ≡ no-assurance n ⌝ }
 {
@@ -69,6 +71,16 @@ pub fn no_crossings(n: u8) -> Drove
     Drove {
         refusal: n,
         length: 0,
+    }
+}
+
+pub fn no_check(n: u8) -> Checked
+    ensures { λ r. ⌜ r ≡ no-check n ⌝ }
+{
+    Checked {
+        refusal: n,
+        reason: 0,
+        position: 0,
     }
 }
 

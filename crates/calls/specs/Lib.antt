@@ -17,11 +17,15 @@ pub mod ListCalls
 pub mod HopCalls
 pub mod LabelCalls
 pub mod DriveCalls
+pub mod CheckCall
 pub mod RouteCalls
 pub mod Agree
 pub mod Unread
+pub mod CheckCalls
 pub mod Demands
 pub mod Sharing
 pub mod ListRead
 pub mod RoundLaws
 pub mod RoundTrip
+pub mod PictureCalls
+pub mod PictureTrips

@@ -7,9 +7,11 @@ use Prim.Native.Nat.{ℕ}
 use native.Mathlib.Omega.{arith}
 use Rattle.field.specs.Labels.{RockOn}
 use Rattle.field.specs.Distances.{Way, Assured}
+use Rattle.field.specs.declared.Finding.{Finding}
+use Rattle.field.specs.Checks.{IsClosed, reasons, Finds, accepted, at-fault}
 use Rattle.field.specs.Workings.SameLaws.{Alike, alike-back, open-same, assured-same, answers-same, has-drive-same, distance-sheet-same, region-sheet-same, driven-same, closed-same, shut-same, groups-same, count-alike}
-use Rattle.calls.specs.Rules.{AnEndClosed, NoWay, assured-rows, hop-rows, region-rows, drive-rows}
-use Rattle.calls.specs.RuleLaws.{Reworded, same}
+use Rattle.calls.specs.Rules.{AnEndClosed, Gives, NoWay, assured-rows, hop-rows, region-rows, drive-rows}
+use Rattle.calls.specs.RuleLaws.{Reworded, gives-reworded, same}
 use Rattle.calls.specs.Answers.{Early, LabelNumbers, DistancesAfter, HopsNamed, RegionAfter, RouteAfter}
 use Rattle.calls.specs.declared.Labelling.{Labelling}
 use Rattle.calls.specs.declared.Homeward.{Homeward}
@@ -92,3 +94,24 @@ module _ (w h : ℕ) {C D : ℕ → ℕ → Type 0} (a : Alike C D) where
 
   pub drive-rows-same : {sx sy dx dy : ℕ} (route : List ℕ) → Reworded (drive-rows w h C sx sy dx dy route) (drive-rows w h D sx sy dx dy route)
   drive-rows-same route = (refl, ends-both, λ _. (refl, no-way-both, λ _. (refl, same, λ _. tt)))
+
+  -- What is found of a drawn list.
+  reasons-same : (sx sy dx dy : ℕ) (l : List ℕ) (p : ℕ) → Reworded (reasons w h C sx sy dx dy l p) (reasons w h D sx sy dx dy l p)
+  reasons-same sx sy dx dy l p =
+      (refl, same, λ _. (refl, same, λ _. (refl, same, λ _. (refl, closed-both, λ _. (refl, same, λ _. (refl, same, λ _. (refl, same, λ _. tt)))))))
+    where
+      closed-both : IsClosed w h C l p ↔ IsClosed w h D l p
+      closed-both = (
+        λ k. record { x = k .x; y = k .y; here = k .here; closed = a (k .x) (k .y) .0 (k .closed) },
+        λ k. record { x = k .x; y = k .y; here = k .here; closed = a (k .x) (k .y) .1 (k .closed) },
+      )
+
+  pub finds-same : {sx sy dx dy : ℕ} {l : List ℕ} {f : Finding} → Finds w h C sx sy dx dy l f → Finds w h D sx sy dx dy l f
+  finds-same {sx} {sy} {dx} {dy} {l} k = go k
+    where
+      moved : (p r : ℕ) → Gives (reasons w h C sx sy dx dy l p) r → Gives (reasons w h D sx sy dx dy l p) r
+      moved p r = gives-reworded (reasons w h C sx sy dx dy l p) (reasons w h D sx sy dx dy l p) r (reasons-same sx sy dx dy l p)
+
+      go : {f : Finding} → Finds w h C sx sy dx dy l f → Finds w h D sx sy dx dy l f
+      go (accepted s e i) = accepted (λ p. moved p _ (s p)) e i
+      go (at-fault f) = at-fault (record { before = λ q b. moved q _ (f .before q b); why = moved _ _ (f .why); some = f .some })

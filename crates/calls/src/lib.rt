@@ -66,3 +66,27 @@ pub struct WroteMap {
     pub refusal: u8,
     pub bytes: usize,
 }
+
+// What is found of a drawn list: why it is at fault and the position of the first crossing at
+// fault, both 0 for an accepted list; or the refusal.
+#[repr(C)]
+pub struct Checked {
+    pub refusal: u8,
+    pub reason: u8,
+    pub position: usize,
+}
+
+// How many bytes of a picture were written, or the refusal.
+#[repr(C)]
+pub struct SheetWritten {
+    pub refusal: u8,
+    pub bytes: usize,
+}
+
+// Width and height of a picture that was read, or the refusal.
+#[repr(C)]
+pub struct SheetRead {
+    pub refusal: u8,
+    pub width: usize,
+    pub height: usize,
+}

@@ -3,3 +3,4 @@ mod Putting
 mod Lines
 mod Showing
 mod Reading
+mod Turning

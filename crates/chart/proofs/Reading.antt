@@ -3,10 +3,10 @@
 use mathlib.Core.Path.{_≡_}
 use mathlib.Core.List.{List}
 use mathlib.Core.Logic.{_⊎_, inl, inr}
-use Prim.Native.Nat.{ℕ, _+_, _*_, _≤_}
+use Prim.Native.Nat.{ℕ, _+_, _*_, _<_, _≤_}
 use native.Mathlib.Omega.{arith}
 use native.Mathlib.Nat.{mul-le-mul-left, mul-le-mul-right}
-use lib.ListN.{length, take, length-take}
+use lib.ListN.{length, getD, take, length-take}
 use lib.Seq.{getD-take}
 use Rattle.field.specs.Map.{side, Sides}
 use Rattle.field.specs.Refusals.{no-slot}
@@ -49,9 +49,12 @@ module _ {file bits : List ℕ} {lent w h count : ℕ} (t : MapTaken file lent w
       record {
         sides = t .map .sides;
         whole = omega (arith, length-take (h * w) bits, map-crossings (t .map));
-        ones = λ i l. omega (arith, getD-take (h * w) bits i 0 l, raster-bits (t .map .format) w h (t .map .body) (take (h * w) bits) (t .map .raster) i);
         size = size;
       }
+
+  -- They are 0 and 1.
+  pub taken-ones : (i : ℕ) → i < h * w → getD bits i 0 ≤ 1
+  taken-ones i l = omega (arith, getD-take (h * w) bits i 0 l, raster-bits (t .map .format) w h (t .map .body) (take (h * w) bits) (t .map .raster) i)
 
   -- Their text is the text of the file.
   pub map-text : {out after : List ℕ} {end : ℕ} → length file ≤ most-bytes → Puts (BitsShown w h bits) out 0 after end → Puts (Charted file) out 0 after end

@@ -13,8 +13,7 @@ use Rattle.chart.specs.Promise.{Picture}
 use Rattle.chart.specs.Parts.{Put, Puts, FirstLine, Shown, BitsShown}
 use Rattle.chart.specs.Drawing.{pictureOf}
 use Rattle.chart.specs.DrawingLaws.{picture-drawn}
-use Rattle.turning.specs.Turning.{TurnedBy}
-use Rattle.turning.specs.TurningLaws.{turned-draws}
+use Rattle.mapfile.specs.File.{FileRock}
 use Rattle.chart.proofs.Putting.{put-front, front-put, filled-more}
 
 -- Rocks that agree on the map.
@@ -66,11 +65,11 @@ module _ {w h : ℕ} {s t : List ℕ} {r : Labelled} (l : Labels w h s t r) wher
       }
 
   -- First line and picture in the output are the text of the map.
-  pub map-put : (bits : List ℕ) {out mid rows after : List ℕ} {start end : ℕ} → TurnedBy w h (take (h * w) bits) s → Puts (FirstLine w h r) out 0 mid start
+  pub map-put : (bits : List ℕ) {out mid rows after : List ℕ} {start end : ℕ} → Draws w h (RockOn (FileRock w h (take (h * w) bits)) w h) s → Puts (FirstLine w h r) out 0 mid start
       → rows ≡ pictureOf t w h → Put mid start rows after end → Puts (BitsShown w h bits) out 0 after end
-  map-put bits {out} {mid} {rows} {after} {start} {end} turned p e q =
+  map-put bits {out} {mid} {rows} {after} {start} {end} drawn p e q =
       record {
         piece = p .piece ++ pictureOf t w h;
-        right = shown-alike w h (stones-alike (turned-draws turned)) (stones-shown (p .right));
+        right = shown-alike w h (stones-alike drawn) (stones-shown (p .right));
         put = front-put (filled-more (p .piece) (pictureOf t w h) start end out mid after (put-front (p .put)) (rw e at q));
       }

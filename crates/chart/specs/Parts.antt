@@ -1,8 +1,8 @@
 -- What the program's functions put into the output, piece by piece.
 use mathlib.Core.Path.{_≡_}
 use mathlib.Core.List.{List, [], _∷_, _++_}
-use Prim.Native.Nat.{ℕ, _+_, _*_, _≤_}
-use lib.ListN.{length, take, drop}
+use Prim.Native.Nat.{ℕ, _+_, _*_, _<_, _≤_}
+use lib.ListN.{length, getD, take, drop}
 use Rattle.field.specs.Map.{side, Sides}
 use Rattle.field.specs.Labels.{Closed, RockOn, Shut, Count}
 use Rattle.field.specs.Groups.{Groups}
@@ -73,6 +73,7 @@ BitsShown w h bits text = Shown (FileRock w h (take (h * w) bits)) w h text
 -- The bits can be stamped on the sheet, and there is room for the text of any map of this size.
 pub record MapRoom (w h : ℕ) (bits sheet out : List ℕ) : Type 0 where
   pub turn : MayTurn w h bits sheet
+  pub ones : (i : ℕ) → i < h * w → getD bits i 0 ≤ 1
   pub room : line-room + h * (w + 1) ≤ length out
 
 -- The file is no longer than the program takes, and there is room for the text of the largest map.

@@ -7,12 +7,9 @@ use Prim.Native.Nat.{ℕ}
 use Rattle.field.specs.Map.{On}
 use Rattle.field.specs.Distances.{Way, Distances, DistanceSheet, Assured}
 use Rattle.field.specs.Workings.Sheet.{Marked, Draws}
+pub use Rattle.field.specs.Workings.Sheet.{marked-draws}
 use Rattle.field.specs.Workings.DistanceLaws.{distances-look, distance-sheet-looks}
 use Rattle.field.specs.Workings.AssuredLaws.{assured-looks}
-
--- A sheet draws what it marks.
-pub marked-draws : (w h : ℕ) (s : List ℕ) → Draws w h (Marked s w h) s
-marked-draws w h s = record { sound = λ x y m. m; complete = λ x y m. m }
 
 module _ {w h : ℕ} {C : ℕ → ℕ → Type 0} {s : List ℕ} (D : Draws w h C s) where
   pub distances-drawn : {x y : ℕ} {four : List ℕ} → On w h x y → (Distances (Marked s w h) x y four ↔ Distances C x y four)

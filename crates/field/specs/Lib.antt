@@ -1,20 +1,27 @@
--- What document 01 defines. The eight modules first named are meanings: relations in the document's
--- words, which a reader must believe. Limits has the numbers that the code's constants share with
--- them. Workings compute, and each agrees with its meaning; Geometry has the theorems that need no
--- code; Table has the settled examples, and FurtherTable what they leave open.
+-- What document 01 defines. The modules first named, Map to Checks, are meanings: relations in the
+-- document's words, which a reader must believe. Limits has the numbers that the code's constants
+-- share with them. Workings compute, and each agrees with its meaning; Geometry and Checked have
+-- the theorems that need no code; Table has the settled examples, FurtherTable what they leave
+-- open, and CheckTable drawn lists.
 pub mod Map
+pub mod Rule
 pub mod Refusals
+pub mod Reasons
 pub mod Labels
 pub mod Groups
 pub mod Distances
 pub mod Hops
 pub mod Drives
 pub mod Chooser
+pub mod Checks
 pub mod CrossingLines
 pub mod Limits
 pub mod Workings
 pub mod Geometry
+pub mod Checked
 pub mod Table
 pub mod Settled
 pub mod FurtherTable
 pub mod Further
+pub mod CheckTable
+pub mod CheckSettled

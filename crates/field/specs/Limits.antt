@@ -4,9 +4,9 @@ use mathlib.Core.Path.{_≡_, refl}
 use Prim.Native.Nat.{ℕ, _*_, _≤_}
 use native.Mathlib.Omega.{arith}
 use native.Mathlib.Nat.{mul-le-mul}
-use Rattle.field.specs.Map.{side, most-markers, no-distance, Sides}
+use Rattle.field.specs.Map.{side, most-markers, no-distance, largest-value, Sides}
 
--- The constants' numbers: SIDE, MOST_CROSSINGS, MOST_MARKERS, NO_DISTANCE.
+-- The constants' numbers: SIDE, MOST_CROSSINGS, MOST_MARKERS, NO_DISTANCE, LARGEST.
 abbrev pub side-number : ℕ
 side-number = 64
 
@@ -19,6 +19,9 @@ marker-slots = 4096
 abbrev pub distance-mark : ℕ
 distance-mark = 255
 
+abbrev pub largest-number : ℕ
+largest-number = 255
+
 pub side-is : side ≡ side-number
 unfolding side
 side-is = refl
@@ -30,6 +33,10 @@ most-markers-is = refl
 pub no-distance-is : no-distance ≡ distance-mark
 unfolding no-distance
 no-distance-is = refl
+
+pub largest-is : largest-value ≡ largest-number
+unfolding largest-value
+largest-is = refl
 
 pub most-crossings-is : side * side ≡ crossing-slots
 unfolding side

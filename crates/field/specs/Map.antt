@@ -17,6 +17,10 @@ most-markers = 4096
 unfoldable pub no-distance : ℕ
 no-distance = 255
 
+-- "the largest value as a third number that must be 255" (document 02, Req 03)
+unfoldable pub largest-value : ℕ
+largest-value = 255
+
 -- "Width and height: 1 to 64 each."
 pub record Sides (w h : ℕ) : Type 0 where
   pub some-w : 1 ≤ w

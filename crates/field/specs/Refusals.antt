@@ -74,3 +74,7 @@ shared-crossing = 16
 -- output too short for the whole file
 abbrev pub short-output : ℕ
 short-output = 17
+
+-- a picture's largest value other than the one that distances are written with
+abbrev pub bad-largest : ℕ
+bad-largest = 18

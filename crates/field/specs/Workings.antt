@@ -21,6 +21,12 @@ pub mod DriveLaws
 pub mod RegionLaws
 pub mod Reaching
 pub mod ReachLaws
+pub mod Checking
+pub mod StepLaws
+pub mod AcceptLaws
+pub mod ShortestLaws
+pub mod FaultLaws
+pub mod CheckLaws
 pub mod ChooserLaws
 pub mod ChoosingLaws
 pub mod SameLaws

@@ -1,6 +1,7 @@
 // The field: what document 01 defines, as meanings that a reader must believe and workings that
 // compute. The definitions stand in specs/; here stands only what code and definitions share.
 pub mod refusals; // refusals.rt: the refusal numbers
+pub mod reasons; // reasons.rt: why a drawn list is refused
 
 // "Width and height: 1 to 64 each."
 pub const SIDE: usize = 64;
@@ -14,10 +15,28 @@ pub const MOST_MARKERS: usize = 4096;
 // "... or 255 if there is none."
 pub const NO_DISTANCE: u8 = 255;
 
+// "the largest value as a third number that must be 255" (document 02, Req 03)
+pub const LARGEST: usize = 255;
+
 // A rock marker: a sixteen-bit id and the crossing on which it stands, laid out for C.
 #[repr(C)]
 pub struct Marker {
     pub id: u16,
     pub x: u16,
     pub y: u16,
+}
+
+// What the checker finds of a drawn list: why it is refused, and the position of the first crossing
+// at fault; both are 0 for a list that is accepted.
+pub struct Finding {
+    pub reason: u8,
+    pub position: usize,
+}
+
+// What is found of one number of a drawn list: the first reason that applies to it; or none, and
+// the crossing.
+pub struct Step {
+    pub reason: u8,
+    pub x: usize,
+    pub y: usize,
 }

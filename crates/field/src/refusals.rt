@@ -54,3 +54,6 @@ pub const SHARED_CROSSING: u8 = 16;
 
 // output too short for the whole file
 pub const SHORT_OUTPUT: u8 = 17;
+
+// a picture's largest value other than the one that distances are written with
+pub const BAD_LARGEST: u8 = 18;

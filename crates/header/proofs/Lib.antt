@@ -2,3 +2,4 @@
 mod Skipping
 mod Numbering
 mod Heading
+mod Counting

@@ -1,7 +1,7 @@
 -- What reading each part of the header promises, by the cases of its answer.
 use mathlib.Core.Path.{_≡_}
 use mathlib.Core.Bool.{Bool, true, false}
-use mathlib.Core.List.{List, [], _∷_}
+use mathlib.Core.List.{List}
 use mathlib.Core.Option.{Option, none, some}
 use Prim.Native.Nat.{ℕ, zero, suc, _≤_}
 use mir.Syntax.{w64}
@@ -15,7 +15,7 @@ use Rattle.header.specs.declared.Gap.the-variants.{Ends, Missing}
 use Rattle.header.specs.declared.Numeral.{Numeral}
 use Rattle.header.specs.declared.Numeral.the-variants.{Value as NumeralValue, Missing as NumeralMissing}
 use Rattle.header.specs.declared.Head.{Head}
-use Rattle.header.specs.declared.Head.the-variants.{Sides as HeadSides, Missing as HeadMissing}
+use Rattle.header.specs.declared.Head.the-variants.{Body, Missing as HeadMissing}
 
 -- A separator's end, against what the working leaves after it.
 abbrev pub GapRead : List ℕ → Option (List ℕ) → Gap → Type 0
@@ -51,26 +51,19 @@ abbrev pub numeralEnd : ℕ → ℕ → ℕ → Numeral
 numeralEnd zero v e = NumeralMissing
 numeralEnd (suc n) v e = NumeralValue v e
 
--- Document 01's number for each case, 13 where there is no header, and its values: width, height
--- and where the raster begins.
+-- Document 01's number for each case, 13 where there is no header, and its value: where the raster
+-- begins.
 abbrev pub headNumber : Head → ℕ
-headNumber (HeadSides w h e) = success
+headNumber (Body e) = success
 headNumber HeadMissing = bad-header
 
-abbrev pub headWidth : Head → ℕ
-headWidth (HeadSides w h e) = w
-headWidth HeadMissing = 0
-
-abbrev pub headHeight : Head → ℕ
-headHeight (HeadSides w h e) = h
-headHeight HeadMissing = 0
-
 abbrev pub headEnd : Head → ℕ
-headEnd (HeadSides w h e) = e
+headEnd (Body e) = e
 headEnd HeadMissing = 0
 
--- A header and where the raster begins, by the grammar; or that there is none.
-pub record HeadRead (src : List ℕ) (at : ℕ) (r : Head) : Type 0 where
+-- A header of these numbers and where the raster begins, by the grammar; or that there is none of
+-- as many numbers.
+pub record HeadRead (src : List ℕ) (at : ℕ) (numbers : List ℕ) (r : Head) : Type 0 where
   pub within : headNumber r ≡ success → headEnd r ≤ length src
-  pub header : headNumber r ≡ success → Header (headWidth r ∷ headHeight r ∷ []) (drop at src) (drop (headEnd r) src)
-  pub none : headNumber r ≡ bad-header → (w h : ℕ) (body : List ℕ) → ¬ Header (w ∷ h ∷ []) (drop at src) body
+  pub header : headNumber r ≡ success → Header numbers (drop at src) (drop (headEnd r) src)
+  pub none : headNumber r ≡ bad-header → (vs body : List ℕ) → length vs ≡ length numbers → ¬ Header vs (drop at src) body

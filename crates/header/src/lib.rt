@@ -1,5 +1,6 @@
-// The header of a map file: "Then a separator, the width, a separator, the height, exactly one
-// blank byte". Each part says where it ends, so that the next begins there.
+// The letters and the header of a file: "Then a separator, the width, a separator, the height,
+// exactly one blank byte". How many numbers a header has, its caller says. Each part says where it
+// ends, so that the next begins there.
 ghost use mathlib.Core.Path.{_≡_};
 ghost use mathlib.Core.Bool.{true, false};
 ghost use mathlib.Core.Logic.{_↔_};
@@ -8,6 +9,7 @@ ghost use lib.ListN.{length, drop};
 ghost use Rattle.mapfile.specs.Header.{Blank, LineEnd, Digit};
 ghost use Rattle.mapfile.specs.HeaderWorking.{afterItems, afterComment, numberFrom, nextNumber, lastBlank};
 ghost use Rattle.header.specs.HeaderParts.{GapRead, gapEnd, gapAt, Past, MaySkip, NumeralRead, numeralEnd, HeadRead};
+ghost use Rattle.header.specs.Letters.{SameTwo};
 
 // "A number is 1 to 9 decimal digits."
 const MOST_DIGITS: usize = 9;
@@ -24,10 +26,26 @@ enum Numeral {
     Missing,
 }
 
-// The header's width and height and where the raster begins; or that there is no header.
+// Where the raster begins; or that there is no header.
 pub enum Head {
-    Sides(usize, usize, usize),
+    Body(usize),
     Missing,
+}
+
+// Whether the bytes begin with these two, the letters of a format.
+pub fn begins(src: &[u8], two: &[u8; 2]) -> bool
+    ensures { λ r. ⌜ ((r ≡ true) ↔ SameTwo (now (src .entry)) (now (two .entry))) ⌝ }
+{
+    if src.len() < 2 {
+        return false;
+    }
+    if src[0] != two[0] {
+        return false;
+    }
+    if src[1] != two[1] {
+        return false;
+    }
+    true
 }
 
 // "A blank is a space, TAB, CR or LF."
@@ -203,22 +221,27 @@ fn one_blank(src: &[u8], at: usize) -> Gap
     Gap::Ends(at + 1)
 }
 
-// "Then a separator, the width, a separator, the height, exactly one blank byte, the raster."
-pub fn header(src: &[u8], at: usize) -> Head
+// A header of as many numbers as the slice has, two in a map file: "Then a separator, the width, a
+// separator, the height, exactly one blank byte, the raster." At no header the slice holds the
+// numbers that were read before the fault, and nothing of use.
+pub fn header(src: &[u8], at: usize, numbers: &mut [usize]) -> Head
     requires { ⌜ at ≤ length (now src) ⌝ }
-    ensures { λ r. ⌜ HeadRead (now (src .entry)) at r ⌝ }
+    ensures { λ r. ⌜ HeadRead (now (src .entry)) at (now (numbers .exit)) r ⌝ }
 {
-    let width = next_number(src, at);
-    let Numeral::Value(w, i) = width else {
-        return Head::Missing;
-    };
-    let height = next_number(src, i);
-    let Numeral::Value(h, j) = height else {
-        return Head::Missing;
-    };
-    let last = one_blank(src, j);
+    let mut i = at;
+    let mut k: usize = 0;
+    while k < numbers.len() {
+        let next = next_number(src, i);
+        let Numeral::Value(v, end) = next else {
+            return Head::Missing;
+        };
+        numbers[k] = v;
+        i = end;
+        k += 1;
+    }
+    let last = one_blank(src, i);
     match last {
-        Gap::Ends(body) => Head::Sides(w, h, body),
+        Gap::Ends(body) => Head::Body(body),
         Gap::Missing => Head::Missing,
     }
 }

@@ -1,10 +1,12 @@
 // The public calls over the lent list of marker records. No call relies on its caller: each answers
 // by the lowest refusal that applies, or succeeds.
 pub mod files; // files.rt: the two map-file calls
+mod pictures; // pictures.rt: the two picture calls
 mod preparing; // preparing.rt: the first part of every asking
 pub mod route; // route.rt: the drive, of which a part of the route is handed back
 
 use calls::Assurance;
+use calls::Checked;
 use calls::Counted;
 use calls::Drove;
 use calls::Four;
@@ -16,6 +18,7 @@ use field::refusals::SUCCESS;
 use preparing::prepare;
 ghost use Rattle.calls.specs.Rules.{Gives, lentMap};
 ghost use Rattle.calls.specs.Calls.{EnterCall, ClearCall, LabelCall, DistancesCall, MeasureCall, AssuredCall, HopCall, RegionCall, DriveCall};
+ghost use Rattle.calls.specs.CheckCall.{CheckCall};
 ghost use Rattle.layer.specs.Prepared.{found-table};
 
 // What is found of the map, the list and an id: refusal 1 or 3, or the id in use, 5, or not in use,
@@ -227,4 +230,26 @@ pub extern "C" fn bodkin_drive(
     let others = judging::fits(w, h, region.len());
     let n = prepare(list, count, w, h, sx, sy, dx, dy, others, labels);
     askings::drive(n, w, h, sx, sy, dx, dy, labels, region, route, state)
+}
+
+// Checks a drawn list of crossing numbers against the shortest drives from (sx, sy) to (dx, dy).
+// Hands back why it is at fault and the position of the first crossing at fault, both 0 where it is
+// accepted, or the refusal: 1, 2, 3, 4 or 8.
+#[no_mangle]
+pub extern "C" fn bodkin_check(
+    list: &[Marker],
+    count: usize,
+    w: usize,
+    h: usize,
+    sx: usize,
+    sy: usize,
+    dx: usize,
+    dy: usize,
+    labels: &mut [u8],
+    drawn: &[u16],
+) -> Checked
+    ensures { λ r. ⌜ CheckCall (lentMap (now (list .entry)) count w h) sx sy dx dy (now (labels .entry)) (now (drawn .entry)) (now (labels .exit)) r ⌝ }
+{
+    let n = prepare(list, count, w, h, sx, sy, dx, dy, true, labels);
+    askings::check(n, w, h, sx, sy, dx, dy, labels, drawn)
 }

@@ -1,6 +1,6 @@
 -- A file read whole: the map that it is, or the number of its fault. It agrees with the grammar
 -- both ways, since a file is one map or has one fault.
-use mathlib.Core.Path.{_≡_, refl, sym, subst, _∙_}
+use mathlib.Core.Path.{_≡_, refl, sym, ap, subst, _∙_}
 use mathlib.Core.List.{List, [], _∷_}
 use mathlib.Core.Logic.{_⊎_, inl, inr}
 use mathlib.Core.Option.{Option, none, some}
@@ -11,7 +11,7 @@ use lib.ListN.{length, getD}
 use Rattle.field.specs.Map.{Sides, side}
 use Rattle.field.specs.Refusals.{bad-size, bad-letters, bad-header, short-raster, long-raster}
 use Rattle.mapfile.specs.Header.{Header}
-use Rattle.mapfile.specs.HeaderWorking.{pick}
+use Rattle.mapfile.specs.HeaderWorking.{pick, pick-yes}
 use Rattle.mapfile.specs.HeadingWorking.{Heading, heading, no-heading, headingOf, HeadingTold, heading-told}
 use Rattle.mapfile.specs.Raster.{rowBytes, RawRaster, PlainFault, raw-short, raw-long}
 use Rattle.mapfile.specs.RasterWorking.{rawBits, digitsOf, plainVerdict}
@@ -109,6 +109,13 @@ unfolding rasterFound
 raster-found plain w h l = plain-found w h l (plainVerdict l (h * w)) (plain-told w h l)
 raster-found raw w h l = raw-found w h l (decLt (length l) (h * rowBytes w)) (decLt (h * rowBytes w) (length l))
 
+-- Two numbers by their places.
+pub two-values : (vs : List ℕ) → length vs ≡ 2 → vs ≡ getD vs 0 0 ∷ getD vs 1 0 ∷ []
+two-values [] e = absurd (omega arith)
+two-values (a ∷ []) e = absurd (omega arith)
+two-values (a ∷ b ∷ []) e = refl
+two-values (a ∷ b ∷ c ∷ vs) e = absurd (omega arith)
+
 module _ (f : Format) (file after : List ℕ) (letters : Letters f file after) where
   raster-file : {w h : ℕ} {body : List ℕ} → Header (w ∷ h ∷ []) after body → Sides w h → (o : Found) → RasterTold f w h body o → FileTold file o
   raster-file {w} {h} {body} k s (a-map a b bits) t =
@@ -121,12 +128,6 @@ module _ (f : Format) (file after : List ℕ) (letters : Letters f file after) w
   sized-file {w} {h} {body} k (yes s) = raster-file k s (rasterFound f w h body) (raster-found f w h body)
   sized-file {w} {h} {body} k (no s) = no-sides f after body w h letters k s refl
 
-  two-values : (vs : List ℕ) → length vs ≡ 2 → vs ≡ getD vs 0 0 ∷ getD vs 1 0 ∷ []
-  two-values [] e = absurd (omega arith)
-  two-values (a ∷ []) e = absurd (omega arith)
-  two-values (a ∷ b ∷ []) e = refl
-  two-values (a ∷ b ∷ c ∷ vs) e = absurd (omega arith)
-
   headed-file : (o : Heading) → HeadingTold 2 after o → FileTold file (headedFound f o)
   unfolding headedFound
   headed-file (heading vs body) t =
@@ -134,7 +135,7 @@ module _ (f : Format) (file after : List ℕ) (letters : Letters f file after) w
   headed-file no-heading t = no-header f after letters (λ w h body. t (w ∷ h ∷ []) body refl) refl
 
 -- The two bytes, found or not.
-abbrev TwoTold : ℕ → ℕ → List ℕ → Option (List ℕ) → Type 0
+abbrev pub TwoTold : ℕ → ℕ → List ℕ → Option (List ℕ) → Type 0
 TwoTold a b file (some rest) = file ≡ a ∷ b ∷ rest
 TwoTold a b file none = (rest : List ℕ) → ¬ (file ≡ a ∷ b ∷ rest)
 
@@ -148,6 +149,10 @@ two-told a b (c ∷ d ∷ l) = go (ℕ-discrete c a) (ℕ-discrete d b)
     go (yes p) (yes q) = cc
     go (yes p) (no q) = λ rest e. q (cc)
     go (no p) q = λ rest e. p (cc)
+
+pub two-found : (a b : ℕ) (file rest : List ℕ) → file ≡ a ∷ b ∷ rest → afterTwo a b file ≡ some rest
+unfolding afterTwo
+two-found a b file rest e = ap (afterTwo a b) e ∙ pick-yes (ℕ-discrete a a) _ _ refl ∙ pick-yes (ℕ-discrete b b) _ _ refl
 
 letters-file : (file : List ℕ) (o k : Option (List ℕ)) → TwoTold 80 49 file o → TwoTold 80 52 file k → FileTold file (lettersFound o k)
 unfolding lettersFound rawLettersFound

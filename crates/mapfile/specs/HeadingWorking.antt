@@ -1,7 +1,7 @@
 -- A header of so many numbers, read: its numbers and what follows it, or that there is none. It
 -- agrees with the grammar both ways.
-use mathlib.Core.Path.{_≡_, refl, sym, subst, _∙_}
-use mathlib.Core.List.{List, [], _∷_}
+use mathlib.Core.Path.{_≡_, refl, sym, ap, subst, _∙_}
+use mathlib.Core.List.{List, [], _∷_, _++_}
 use mathlib.Core.Option.{Option, none, some}
 use Prim.Native.Nat.{ℕ, zero, suc}
 use native.Mathlib.Omega.{arith}
@@ -10,6 +10,7 @@ use Rattle.mapfile.specs.Header.{Header}
 use Rattle.mapfile.specs.HeaderWorking.{Value, value, no-value, nextNumber, lastBlank, GivesNumbers}
 use Rattle.mapfile.specs.HeaderSound.{header-sound}
 use Rattle.mapfile.specs.HeaderComplete.{header-complete}
+use Rattle.mapfile.specs.HeaderLaws.{headers-one}
 
 -- The numbers and what follows the header.
 pub data Heading : Type 0 where
@@ -34,6 +35,11 @@ andThen no-value more = no-heading
 unfoldable pub headingOf : ℕ → List ℕ → Heading
 headingOf zero l = lastly (lastBlank l)
 headingOf (suc n) l = andThen (nextNumber l) (headingOf n)
+
+-- Several numbers before what is read of the later ones.
+unfoldable pub ontoAll : List ℕ → Heading → Heading
+ontoAll [] k = k
+ontoAll (v ∷ vs) k = onto v (ontoAll vs k)
 
 -- What is read tells the bytes: a header of n numbers, or that they begin with none.
 abbrev pub HeadingTold : ℕ → List ℕ → Heading → Type 0
@@ -92,3 +98,47 @@ given-told n l no-heading g = λ vs rest s h. g vs rest s (header-complete h)
 
 pub heading-told : (n : ℕ) (l : List ℕ) → HeadingTold n l (headingOf n l)
 heading-told n l = given-told n l (headingOf n l) (heading-given n l)
+
+-- Step by step: a number more, no number, the last blank or none.
+pub onto-more : (vs : List ℕ) (v : ℕ) (k : Heading) → ontoAll (vs ++ v ∷ []) k ≡ ontoAll vs (onto v k)
+unfolding ontoAll
+onto-more [] v k = refl
+onto-more (u ∷ vs) v k = ap (onto u) (onto-more vs v k)
+
+pub onto-none : (vs : List ℕ) → ontoAll vs no-heading ≡ no-heading
+unfolding ontoAll onto
+onto-none [] = refl
+onto-none (v ∷ vs) = ap (onto v) (onto-none vs)
+
+pub onto-last : (vs rest : List ℕ) → ontoAll vs (heading [] rest) ≡ heading vs rest
+unfolding ontoAll onto
+onto-last [] rest = refl
+onto-last (v ∷ vs) rest = ap (onto v) (onto-last vs rest)
+
+pub heading-more : (n : ℕ) (l m : List ℕ) (v : ℕ) → nextNumber l ≡ value v m → headingOf (suc n) l ≡ onto v (headingOf n m)
+unfolding headingOf andThen
+heading-more n l m v e = ap (λ (o : Value). andThen o (headingOf n)) e
+
+pub heading-none : (n : ℕ) (l : List ℕ) → nextNumber l ≡ no-value → headingOf (suc n) l ≡ no-heading
+unfolding headingOf andThen
+heading-none n l e = ap (λ (o : Value). andThen o (headingOf n)) e
+
+pub heading-last : (l rest : List ℕ) → lastBlank l ≡ some rest → headingOf 0 l ≡ heading [] rest
+unfolding headingOf lastly
+heading-last l rest e = ap lastly e
+
+pub heading-no-last : (l : List ℕ) → lastBlank l ≡ none → headingOf 0 l ≡ no-heading
+unfolding headingOf lastly
+heading-no-last l e = ap lastly e
+
+-- Completeness: a header is read as its numbers and its rest.
+pub heading-found : {vs l rest : List ℕ} → Header vs l rest → headingOf (length vs) l ≡ heading vs rest
+heading-found {vs} {l} {rest} h = go (headingOf (length vs) l) (heading-told (length vs) l)
+  where
+    go : (k : Heading) → HeadingTold (length vs) l k → k ≡ heading vs rest
+    go (heading us other) t =
+        let e = headers-one (t .0) (t .1) h in
+        let p : us ≡ vs = e .0 in
+        let q : other ≡ rest = e .1 in
+        cc
+    go no-heading t = absurd (t vs rest refl h)

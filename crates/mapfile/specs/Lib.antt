@@ -2,6 +2,7 @@
 pub mod Header
 pub mod Raster
 pub mod File
+pub mod Turned
 pub mod Written
 pub mod HeaderWorking
 pub mod HeaderSound
@@ -13,6 +14,7 @@ pub mod RasterLaws
 pub mod PlainSound
 pub mod FileLaws
 pub mod FileWorking
+pub mod TurnedLaws
 pub mod MarkerLaws
 pub mod RockLaws
 pub mod PlainLaws

@@ -82,7 +82,7 @@ unfoldable pub plainOf : ℕ → List ℕ → Bool
 plainOf v l =
     (every (length l) (digitOf l) && (leb 1 (length l) && leb (length l) most-digits)) && (eqb v (valueFrom 0 l) && not (eqb (getD l 0 0) 48))
 
-plain-of : (v : ℕ) (l : List ℕ) → plainOf v l ≡ true → Plain v l
+pub plain-of : (v : ℕ) (l : List ℕ) → plainOf v l ≡ true → Plain v l
 unfolding plainOf digitOf
 plain-of v l e =
     let f = and-split _ _ e in

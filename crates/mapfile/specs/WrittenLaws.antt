@@ -28,7 +28,7 @@ written-one w h R told file other p q =
     p .is ∙ rw (width, height, rows) (sym (q .is))
 
 -- One blank byte is a separator.
-blank-separator : (b : ℕ) → Blank b → Separator (b ∷ [])
+pub blank-separator : (b : ℕ) → Blank b → Separator (b ∷ [])
 blank-separator b t =
     record { blanks = 1; some = omega arith; items = blank-item b t (no-items refl refl) refl refl }
 

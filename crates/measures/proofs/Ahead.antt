@@ -3,15 +3,23 @@
 -- more than its neighbour, or none where the neighbour has none.
 use mathlib.Core.Path.{_≡_, refl, sym, subst}
 use mathlib.Core.List.{List}
+use mathlib.Core.Logic.{_≢_}
 use Prim.Native.Nat.{ℕ, _+_, _-_, _<_, _≤_}
 use native.Mathlib.Omega.{arith}
 use Rattle.field.specs.Map.{side, no-distance, Sides, On, at}
 use Rattle.field.specs.Distances.{Way, Along, Clear, at-closed, nearest, none}
 use Rattle.field.specs.Workings.Sheet.{Marked}
 use Rattle.field.specs.Workings.ClearLaws.{no-distance-far, along-short}
-use Rattle.measures.specs.Running.{Onward, closed, lost, further, Neighbour, edge, next}
 use Rattle.distances.proofs.Ways.{along-start, along-join, along-rest}
 use Rattle.distances.proofs.Looking.{Bare, bare-first, bare-met, bare-past}
+
+-- A crossing's number r, from what the sheet has there, v, and from its neighbour's number that
+-- way, which is the mark for none at the edge: 0 where the crossing is closed, none where the
+-- neighbour has none, and else one more.
+pub data Onward (v last r : ℕ) : Type 0 where
+  closed : 0 < v → r ≡ 0 → Onward v last r
+  lost : v ≡ 0 → last ≡ no-distance → r ≡ no-distance → Onward v last r
+  further : v ≡ 0 → last ≢ no-distance → r ≡ last + 1 → Onward v last r
 
 -- What lies ahead of (x, y) that way, itself left out: the nearest mark is m + 1 hops away, or
 -- there is none and m is the mark for none.
@@ -32,12 +40,6 @@ module _ {s : List ℕ} {w h : ℕ} {t : Way} {x y : ℕ} where
   ahead-next {m} a b l (nearest i j f n c g) =
       met i j (along-join t m x y a b i j l n) c (λ k d e p q o. g (k - 1) d e (omega arith) (along-rest t k x y a b d e p l o))
   ahead-next a b l (none f g e) = missed (λ k c d p o. g (k - 1) c d (along-rest t k x y a b c d p l o)) e
-
-  -- So there is what a sheet has at the neighbour, where that is the neighbour's distance.
-  pub ahead-neighbour : {u : List ℕ} {r : ℕ} → Neighbour w h t x y u r
-      → ((a b : ℕ) → On w h a b → Along t 1 x y a b → Clear (Marked s w h) t a b (at u w a b)) → Ahead s w h t x y r
-  ahead-neighbour (edge off e) f = subst (Ahead s w h t x y) (sym e) (ahead-edge off)
-  ahead-neighbour (next a b o l e) f = subst (Ahead s w h t x y) (sym e) (ahead-next a b l (f a b o l))
 
   -- The number made of what the sheet has at (x, y) and of what lies ahead is then the distance of
   -- (x, y).

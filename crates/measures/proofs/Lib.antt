@@ -1,4 +1,8 @@
--- What the proofs of several functions share: the number ahead of a crossing, and how the numbers
--- fill a sheet.
+-- What the proofs of several functions share: a crossing's distance from its neighbour's, lines of
+-- crossings, sheets filled place by place, and running numbers step by step.
 mod Ahead
+mod Lines
 mod Filling
+mod Runs
+mod Columns
+mod Meaning

@@ -1,60 +1,116 @@
--- What the functions behind `measure` promise one another: a crossing's number from its
--- neighbour's, and how the numbers fill a sheet.
+-- What the functions behind `measure` promise one another. A line is a row or a column, its places
+-- counted from the edge that its way leads to, and a running number goes over it from there.
 use mathlib.Core.Path.{_≡_}
+use mathlib.Core.Bool.{Bool, true, false, cond}
 use mathlib.Core.List.{List}
 use mathlib.Core.Logic.{_≢_}
-use Prim.Native.Nat.{ℕ, _+_, _*_, _<_}
-use lib.ListN.{length, set}
-use Rattle.field.specs.Map.{On, number, at, no-distance}
-use Rattle.field.specs.Distances.{Way, Along, Clear}
-use Rattle.field.specs.Workings.Sheet.{Marked}
+use Prim.Native.Nat.{ℕ, suc, zero, _+_, _*_, _-_, _^_, _<_, _≤_}
+use lib.Bits.{bitAnd}
+use lib.Dec.{eqb}
+use lib.ListN.{length, getD}
+use Rattle.field.specs.Map.{side, Sides, On, at, no-distance}
+use Rattle.field.specs.Distances.{Way, eastward, southward, westward, northward}
 use Rattle.sheets.specs.Promise.{Fits}
 
--- A crossing's number r, from what the sheet has there, v, and from its neighbour's number that
--- way, which is the mark for none at the edge: 0 where the crossing is closed, none where the
+-- Place k of n, counted from the high end or from the low one.
+abbrev pub nth : Bool → ℕ → ℕ → ℕ
+nth true n k = n - 1 - k
+nth false n k = k
+
+pub record Nth (e : Bool) (n k r : ℕ) : Type 0 where
+  pub is : r ≡ nth e n k
+  pub below : r < n
+
+-- The number k further from that end.
+abbrev pub onTo : Bool → ℕ → ℕ → ℕ
+onTo true n k = n - k
+onTo false n k = n + k
+
+pub record Room (e : Bool) (n k : ℕ) : Type 0 where
+  pub below : e ≡ true → k ≤ n
+  pub few : n + k < 2 ^ 64
+
+-- The way that leads to a row's high end or to its low one, and so for a column.
+abbrev pub rowWay : Bool → Way
+rowWay true = eastward
+rowWay false = westward
+
+abbrev pub columnWay : Bool → Way
+columnWay true = northward
+columnWay false = southward
+
+-- A running number after k places: it starts as c, and each place makes the next of the last one
+-- and of what the place itself has, f.
+unfoldable pub run : (ℕ → ℕ → ℕ) → ℕ → (ℕ → ℕ) → ℕ → ℕ
+run step c f zero = c
+run step c f (suc k) = step (run step c f k) (f k)
+
+-- What a crossing by itself has is 0 where it is closed, and none, all of whose bits are set,
+-- elsewhere. So this is 0 at a closed crossing, and else one more.
+unfoldable pub counted : ℕ → ℕ → ℕ
+counted last own = bitAnd (last + 1) own
+
+-- The same for a number that may be none, which stays none: 0 at a closed crossing, none where the
 -- neighbour has none, and else one more.
-pub data Onward (v last r : ℕ) : Type 0 where
-  closed : 0 < v → r ≡ 0 → Onward v last r
-  lost : v ≡ 0 → last ≡ no-distance → r ≡ no-distance → Onward v last r
-  further : v ≡ 0 → last ≢ no-distance → r ≡ last + 1 → Onward v last r
+unfoldable pub onward : ℕ → ℕ → ℕ
+onward last own = cond (eqb own 0) 0 (cond (eqb last no-distance) no-distance (last + 1))
+
+-- What a crossing by itself has, r, of its mark.
+pub record OwnOf (mark r : ℕ) : Type 0 where
+  pub closed : mark ≢ 0 → r ≡ 0
+  pub free : mark ≡ 0 → r ≡ no-distance
+
+-- Every crossing has on sheet u what it has by itself; s marks the closed ones.
+pub record Owned (s u : List ℕ) : Type 0 where
+  pub size : length u ≡ length s
+  pub each : (i : ℕ) → i < length s → OwnOf (getD s i 0) (getD u i 0)
+
+-- A number that is no distance becomes none.
+pub record SettledOf (n r : ℕ) : Type 0 where
+  pub near : n < side → r ≡ n
+  pub far : side ≤ n → r ≡ no-distance
+
+pub record Settled (u v : List ℕ) : Type 0 where
+  pub size : length v ≡ length u
+  pub each : (i : ℕ) → i < length u → SettledOf (getD u i 0) (getD v i 0)
 
 -- A sheet of the closed crossings, and a sheet of the map's size to write on.
 pub record Ready (w h : ℕ) (s u : List ℕ) : Type 0 where
   pub fits : Fits w h s
   pub room : length u ≡ h * w
 
--- The same with a place of the map, and with a row.
-pub record ReadyAt (w h : ℕ) (s u : List ℕ) (x y : ℕ) : Type 0 where
-  pub ready : Ready w h s u
-  pub on : On w h x y
-
-pub record ReadyRow (w h : ℕ) (s u : List ℕ) (y : ℕ) : Type 0 where
-  pub ready : Ready w h s u
+-- A sheet of the map and a row.
+pub record InRow (w h y : ℕ) (u : List ℕ) : Type 0 where
+  pub fits : Fits w h u
   pub in-y : y < h
 
--- The same with a row whose crossings' neighbours that way have their distances already.
-pub record ReadyAfter (w h : ℕ) (s : List ℕ) (t : Way) (u : List ℕ) (y : ℕ) : Type 0 where
-  pub ready : Ready w h s u
+-- The same with another row.
+pub record Beside (w h y z : ℕ) (u : List ℕ) : Type 0 where
+  pub fits : Fits w h u
   pub in-y : y < h
-  pub after : (x a b : ℕ) → On w h a b → Along t 1 x y a b → Clear (Marked s w h) t a b (at u w a b)
+  pub in-z : z < h
+  pub other : y ≢ z
 
--- What sheet u has at the neighbour of (x, y) that way, or the mark for none at the edge.
-pub data Neighbour (w h : ℕ) (t : Way) (x y : ℕ) (u : List ℕ) (r : ℕ) : Type 0 where
-  edge : ((k a b : ℕ) → 0 < k → Along t k x y a b → ¬ On w h a b) → r ≡ no-distance → Neighbour w h t x y u r
-  next : (a b : ℕ) → On w h a b → Along t 1 x y a b → r ≡ at u w a b → Neighbour w h t x y u r
-
--- The number r of (x, y) is made of its neighbour's, `last`, and is all that is written.
-pub record Put (w x y last : ℕ) (s u v : List ℕ) (r : ℕ) : Type 0 where
-  pub onward : Onward (at s w x y) last r
-  pub written : v ≡ set u (number w x y) r
-
--- From sheet u to sheet v, the crossings of D get their distances that way, and those that have
--- theirs already keep them.
-pub record Gains (w h : ℕ) (s : List ℕ) (t : Way) (D : ℕ → ℕ → Type 0) (u v : List ℕ) : Type 0 where
+-- From sheet u to sheet v a running number goes along row y, and no other row changes.
+pub record RowRun (w h : ℕ) (e : Bool) (y : ℕ) (u v : List ℕ) : Type 0 where
   pub size : length v ≡ length u
-  pub keeps : (a b : ℕ) → On w h a b → Clear (Marked s w h) t a b (at u w a b) → Clear (Marked s w h) t a b (at v w a b)
-  pub gains : (a b : ℕ) → On w h a b → D a b → Clear (Marked s w h) t a b (at v w a b)
+  pub ran : (k : ℕ) → k < w → at v w (nth e w k) y ≡ run counted side (λ j. at u w (nth e w j) y) (suc k)
+  pub rest : (a b : ℕ) → On w h a b → b ≢ y → at v w a b ≡ at u w a b
 
--- The crossings of row y.
-abbrev pub Row : ℕ → ℕ → ℕ → Type 0
-Row y a b = b ≡ y
+-- The same along every row.
+pub record RowsRun (w h : ℕ) (e : Bool) (u v : List ℕ) : Type 0 where
+  pub size : length v ≡ length u
+  pub ran : (k y : ℕ) → k < w → y < h → at v w (nth e w k) y ≡ run counted side (λ j. at u w (nth e w j) y) (suc k)
+
+-- From sheet u to sheet v row y is made of what it has and of row z, and no other row changes.
+pub record RowMade (w h y z : ℕ) (u v : List ℕ) : Type 0 where
+  pub size : length v ≡ length u
+  pub made : (x : ℕ) → x < w → at v w x y ≡ onward (at u w x z) (at u w x y)
+  pub rest : (a b : ℕ) → On w h a b → b ≢ y → at v w a b ≡ at u w a b
+
+-- From sheet u to sheet v a running number goes along every column; the edge's own numbers stand
+-- already.
+pub record ColumnsRun (w h : ℕ) (e : Bool) (u v : List ℕ) : Type 0 where
+  pub size : length v ≡ length u
+  pub edge : (x : ℕ) → x < w → at v w x (nth e h 0) ≡ at u w x (nth e h 0)
+  pub ran : (x k : ℕ) → x < w → suc k < h → at v w x (nth e h (suc k)) ≡ onward (at v w x (nth e h k)) (at u w x (nth e h (suc k)))

@@ -1,11 +1,15 @@
-// Clear distances of the whole map, over a sheet that marks the closed crossings.
-mod row; // row.rt: the distances of a row
-mod sheet; // sheet.rt: the distances of the map, one way
+// Clear distances of the whole map, over a sheet that marks the closed crossings. Each sheet is
+// first given what every crossing has by itself, 0 where it is closed and none elsewhere; a running
+// number then goes over it from the edge on, along each row or each column. No crossing is looked
+// at again for another.
+mod across; // across.rt: the running numbers along the columns, south and north
+mod along; // along.rt: the running number along a row, east and west
+mod each; // each.rt: what is done to every crossing by itself
 
 ghost use Rattle.measures.specs.Promise.{Lent, Measured};
 
-// The distances of the whole map, one sheet for each way. Each number is made of its neighbour's:
-// no crossing is looked at twice for one way.
+// The distances of the whole map, one sheet for each way. Looking east or north the high edge comes
+// first, and west or south the low one.
 pub fn measure(
     s: &[u8],
     w: usize,
@@ -18,8 +22,8 @@ pub fn measure(
     requires { ⌜ Lent w h (now s) (now east) (now south) (now west) (now north) ⌝ }
     ensures { λ _. ⌜ Measured w h (now (s .entry)) (now (east .exit)) (now (south .exit)) (now (west .exit)) (now (north .exit)) ⌝ }
 {
-    sheet::east(s, w, h, east);
-    sheet::south(s, w, h, south);
-    sheet::west(s, w, h, west);
-    sheet::north(s, w, h, north);
+    along::sheet(s, w, h, true, east);
+    across::sheet(s, w, h, false, south);
+    along::sheet(s, w, h, false, west);
+    across::sheet(s, w, h, true, north);
 }

@@ -1,26 +1,19 @@
 -- The first two bytes and the formats' letters: the bytes begin with a format's letters exactly
 -- when the first two are the same as those.
-use mathlib.Core.Path.{_≡_, refl, ap, subst}
-use mathlib.Core.List.{List, [], _∷_}
+use mathlib.Core.Path.{_≡_, ap, subst}
+use mathlib.Core.List.{List}
 use Prim.Native.Nat.{ℕ, _≤_}
 use native.Mathlib.Omega.{arith}
 use lib.ListN.{length, drop}
 use Rattle.mapfile.specs.File.{Format, plain, raw, Letters, lettersOf}
-use Rattle.reader.specs.LettersParts.{SameTwo, lettersNumber, lettersFormat, LettersRead}
+use Rattle.header.specs.Letters.{SameTwo, two-first, first-two}
+use Rattle.reader.specs.LettersParts.{lettersNumber, lettersFormat, LettersRead}
 use Rattle.reader.specs.declared.Letters.{Letters as LettersFound}
 use Rattle.reader.specs.declared.Letters.the-variants.{Plain, Raw, Neither}
-
-two-first : (file : List ℕ) (a b : ℕ) → SameTwo file (a ∷ b ∷ []) → file ≡ a ∷ b ∷ drop 2 file
-two-first [] a b s = absurd (omega (arith, s .long))
-two-first (c ∷ []) a b s = absurd (omega (arith, s .long))
-two-first (c ∷ d ∷ l) a b s = let p : c ≡ a = s .first in let q : d ≡ b = s .second in cc
 
 pub same-letters : (f : Format) (file : List ℕ) → SameTwo file (lettersOf f) → Letters f file (drop 2 file)
 same-letters plain file s = two-first file 80 49 s
 same-letters raw file s = two-first file 80 52 s
-
-first-two : (file rest : List ℕ) (a b : ℕ) → file ≡ a ∷ b ∷ rest → SameTwo file (a ∷ b ∷ [])
-first-two file rest a b e = rw e (record { long = omega arith; first = refl; second = refl })
 
 letters-same : (f : Format) (file rest : List ℕ) → Letters f file rest → SameTwo file (lettersOf f)
 letters-same plain file rest e = first-two file rest 80 49 e

@@ -2,18 +2,12 @@
 use mathlib.Core.Path.{_≡_}
 use mathlib.Core.List.{List}
 use mathlib.Core.Option.{Option, none, some}
-use Prim.Native.Nat.{ℕ, _≤_}
-use lib.ListN.{length, getD, drop}
+use Prim.Native.Nat.{ℕ}
+use lib.ListN.{drop}
 use Rattle.field.specs.Refusals.{success, bad-letters}
 use Rattle.mapfile.specs.File.{Format, plain, raw, Letters}
 use Rattle.reader.specs.declared.Letters.{Letters as LettersFound}
 use Rattle.reader.specs.declared.Letters.the-variants.{Plain, Raw, Neither}
-
--- The bytes begin with these two.
-pub record SameTwo (file two : List ℕ) : Type 0 where
-  pub long : 2 ≤ length file
-  pub first : getD file 0 0 ≡ getD two 0 0
-  pub second : getD file 1 0 ≡ getD two 1 0
 
 -- Document 01's number for each case, 12 for neither, and the format that is named.
 abbrev pub lettersNumber : LettersFound → ℕ

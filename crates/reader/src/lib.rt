@@ -15,7 +15,7 @@ ghost use Prim.Native.Nat.{ℕ, _*_, _≤_};
 ghost use lib.ListN.{length};
 ghost use Rattle.field.specs.Map.{side};
 ghost use Rattle.reader.specs.Promise.{Reads};
-ghost use Rattle.reader.specs.LettersParts.{SameTwo, LettersRead};
+ghost use Rattle.reader.specs.LettersParts.{LettersRead};
 ghost use Rattle.raster.specs.RasterParts.{BitRoom, formatOf};
 ghost use Rattle.reader.specs.ReadingParts.{HasRoom, RasterRefusal, RasterReads, MayReadMap};
 
@@ -33,30 +33,14 @@ enum Letters {
     Neither,
 }
 
-// Whether the bytes begin with these two.
-fn begins(src: &[u8], two: &[u8; 2]) -> bool
-    ensures { λ r. ⌜ ((r ≡ true) ↔ SameTwo (now (src .entry)) (now (two .entry))) ⌝ }
-{
-    if src.len() < 2 {
-        return false;
-    }
-    if src[0] != two[0] {
-        return false;
-    }
-    if src[1] != two[1] {
-        return false;
-    }
-    true
-}
-
 // "The file starts with the two bytes P1 or P4."
 fn first_two(src: &[u8]) -> Letters
     ensures { λ r. ⌜ LettersRead (now (src .entry)) r ⌝ }
 {
-    if begins(src, b"P1") {
+    if header::begins(src, b"P1") {
         return Letters::Plain;
     }
-    if begins(src, b"P4") {
+    if header::begins(src, b"P4") {
         return Letters::Raw;
     }
     Letters::Neither
@@ -115,10 +99,13 @@ fn read_map(src: &[u8], plain: bool, lent: usize, bits: &mut [u8]) -> Reading
     requires { ⌜ MayReadMap (formatOf plain) (now src) (now bits) ⌝ }
     ensures { λ r. ⌜ Reads (now (src .entry)) lent (now (bits .exit)) r ⌝ }
 {
-    let head = header::header(src, 2);
-    let Head::Sides(w, h, at) = head else {
+    let mut sides = [0usize; 2];
+    let head = header::header(src, 2, &mut sides);
+    let Head::Body(at) = head else {
         return Reading::Refused(BAD_HEADER);
     };
+    let w = sides[0];
+    let h = sides[1];
     if !sheets::sized(w, h) {
         return Reading::Refused(BAD_SIZE);
     }

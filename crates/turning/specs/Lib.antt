@@ -1,3 +1,3 @@
--- What turning a raster's bits onto a sheet promises, and why its rows are that.
+-- What turning a raster onto a sheet asks, and why its rows are the sheet.
 pub mod Turning
 pub mod TurningLaws

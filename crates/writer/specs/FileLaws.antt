@@ -1,6 +1,6 @@
 -- Header and rows together are the whole file of the promise, and its length is the one that the
 -- code works out first.
-use mathlib.Core.Path.{_≡_, _∙_}
+use mathlib.Core.Path.{_≡_, refl, _∙_}
 use mathlib.Core.List.{List, [], _∷_, _++_, append-assoc}
 use Prim.Native.Nat.{ℕ, _+_, _*_, _^_, _<_, _≤_}
 use native.Mathlib.Omega.{arith}
@@ -18,16 +18,16 @@ use Rattle.packing.specs.RowLaws.{rows-length, rows-packed}
 
 -- The whole file, where the width has a digits and the height b.
 unfoldable pub fileOf : List ℕ → ℕ → ℕ → ℕ → ℕ → List ℕ
-fileOf s w a h b = headerOf w a h b ++ rowsOf s w h
+fileOf s w a h b = headerOf raw-letters w a h b ++ rowsOf s w h
 
-pub header-length : (w a h b : ℕ) → length (headerOf w a h b) ≡ a + b + 5
+pub header-length : (letters : List ℕ) (w a h b : ℕ) → length letters ≡ 2 → length (headerOf letters w a h b) ≡ a + b + 5
 unfolding headerOf
-header-length w a h b =
+header-length letters w a h b two =
     simp (length-append, digits-length) (omega arith)
 
 pub file-length : (s : List ℕ) (w a h b : ℕ) → length (fileOf s w a h b) ≡ a + b + 5 + h * rowBytes w
 unfolding fileOf
-file-length s w a h b = length-append (headerOf w a h b) (rowsOf s w h) ∙ omega (arith, header-length w a h b, rows-length s w h)
+file-length s w a h b = length-append (headerOf raw-letters w a h b) (rowsOf s w h) ∙ omega (arith, header-length raw-letters w a h b refl, rows-length s w h)
 
 -- A side has no more digits than the grammar allows.
 side-short : (v : ℕ) → v ≤ side → v < 10 ^ most-digits
@@ -38,7 +38,7 @@ pub side-few : {v n : ℕ} → v ≤ side → DigitCount v n → n ≤ most-digi
 unfolding most-digits
 side-few {v} l c = digits-few c most-digits (omega arith) (side-short v l)
 
-side-plain : (v n : ℕ) → 1 ≤ v → v ≤ side → DigitCount v n → Plain v (digitsOf n v)
+pub side-plain : (v n : ℕ) → 1 ≤ v → v ≤ side → DigitCount v n → Plain v (digitsOf n v)
 side-plain v n some l c = digits-plain v n some (side-short v l) c
 
 pub file-written : (s : List ℕ) (w a h b : ℕ) → Sides w h → DigitCount w a → DigitCount h b → Written w h (Marked s w h) (fileOf s w a h b)

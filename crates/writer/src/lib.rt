@@ -5,9 +5,8 @@ ghost use mathlib.Core.Path.{_≡_};
 ghost use mathlib.Core.List.{_∷_, [], _++_};
 ghost use Prim.Native.Nat.{_≤_, _+_};
 ghost use lib.ListN.{length};
-ghost use Rattle.mapfile.specs.File.{raw-letters};
 ghost use Rattle.writer.specs.Promise.{Asked, Writes};
-ghost use Rattle.writer.specs.Digits.{DigitCount, digitsOf, headerOf};
+ghost use Rattle.writer.specs.Digits.{DigitCount, digitsOf, twoOf, headerOf};
 
 // What writing comes to: so many bytes, or an output too short for the whole file.
 pub enum Wrote {
@@ -49,27 +48,26 @@ pub fn write_number(out: &mut [u8], v: usize)
     }
 }
 
-// The header's first three bytes: the letters and LF.
-fn write_letters(out: &mut [u8])
+// The header's first three bytes: the format's letters and LF.
+fn write_letters(out: &mut [u8], letters: &[u8; 2])
     requires { ⌜ length (now out) ≡ 3 ⌝ }
-    ensures { λ _. ⌜ now (out .exit) ≡ raw-letters ++ 10 ∷ [] ⌝ }
+    ensures { λ _. ⌜ now (out .exit) ≡ twoOf (now (letters .entry)) ++ 10 ∷ [] ⌝ }
 {
-    let letters = b"P4";
     out[0] = letters[0];
     out[1] = letters[1];
     out[2] = b'\n';
 }
 
-// The header: "P4", LF, width, space, height, LF. The slice has just its length; the width has a
-// digits and the height b.
-fn write_header(out: &mut [u8], w: usize, a: usize, h: usize, b: usize)
+// The letters of a format, LF, width, space, height, LF. The slice has just their length; the width
+// has a digits and the height b.
+pub fn write_header(out: &mut [u8], letters: &[u8; 2], w: usize, a: usize, h: usize, b: usize)
     requires { ⌜ length (now out) ≡ a + b + 5 ⌝ }
-    ensures { λ _. ⌜ now (out .exit) ≡ headerOf w a h b ⌝ }
+    ensures { λ _. ⌜ now (out .exit) ≡ headerOf (twoOf (now (letters .entry))) w a h b ⌝ }
 {
     let space = 3 + a;
     let next = space + 1;
     let end = next + b;
-    write_letters(&mut out[0..3]);
+    write_letters(&mut out[0..3], letters);
     write_number(&mut out[3..space], w);
     out[space] = b' ';
     write_number(&mut out[next..end], h);
@@ -89,7 +87,7 @@ pub fn write(s: &[u8], w: usize, h: usize, out: &mut [u8]) -> Wrote
     if out.len() < end {
         return Wrote::Short;
     }
-    write_header(&mut out[0..start], w, a, h, b);
+    write_header(&mut out[0..start], b"P4", w, a, h, b);
     packing::write_rows(&mut out[start..end], s, w, h);
     Wrote::Bytes(end)
 }

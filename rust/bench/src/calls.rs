@@ -1,10 +1,11 @@
 //! The calls that are measured, each made so many times over by one side.
 use crate::input::Input;
 use crate::layer::{Layer, Listing};
-use crate::plain::Stack;
+use crate::plain::{Looking, Stack};
 use crate::room::{Room, Window};
 use grainbodkin_sys::{
-    Assurance, Counted, Drove, Four, Homeward, Labelling, Marker, ReadMap, WroteMap,
+    Assurance, Checked, Counted, Drove, Four, Homeward, Labelling, Marker, ReadMap, SheetRead,
+    SheetWritten, WroteMap,
 };
 use std::hint::black_box;
 
@@ -18,15 +19,18 @@ pub enum Call {
     Hop,
     Region,
     Drive,
+    Check,
     Enter,
     Clear,
     ReadPlain,
     ReadRaw,
     Write,
+    ReadSheet,
+    WriteSheet,
 }
 
 /// Every call with its name.
-pub const CALLS: [(&str, Call); 12] = [
+pub const CALLS: [(&str, Call); 15] = [
     ("label", Call::Label),
     ("measure", Call::Measure),
     ("distances", Call::Distances),
@@ -34,11 +38,14 @@ pub const CALLS: [(&str, Call); 12] = [
     ("hop", Call::Hop),
     ("region", Call::Region),
     ("drive", Call::Drive),
+    ("check", Call::Check),
     ("enter", Call::Enter),
     ("clear", Call::Clear),
     ("read-p1", Call::ReadPlain),
     ("read-p4", Call::ReadRaw),
     ("write", Call::Write),
+    ("read-p5", Call::ReadSheet),
+    ("write-p5", Call::WriteSheet),
 ];
 
 impl Call {
@@ -52,9 +59,13 @@ impl Call {
         match self {
             Call::Label => &crate::maps::NAMES,
             Call::Measure => &["empty", "sparse", "dense", "diagonal", "lattice-2"],
-            Call::Distances | Call::Assured | Call::Hop | Call::Region | Call::Drive => {
-                &["empty", "sparse", "dense", "blocks", "lattice-2"]
-            }
+            Call::Distances
+            | Call::Assured
+            | Call::Hop
+            | Call::Region
+            | Call::Drive
+            | Call::Check => &["empty", "sparse", "dense", "blocks", "lattice-2"],
+            Call::ReadSheet | Call::WriteSheet => &["sparse"],
             _ => &["sparse", "dense", "full"],
         }
     }
@@ -69,9 +80,12 @@ pub enum Answer {
     Assurance(Assurance),
     Homeward(Homeward),
     Drove(Drove),
+    Checked(Checked),
     Counted(Counted),
     ReadMap(ReadMap),
     WroteMap(WroteMap),
+    SheetRead(SheetRead),
+    SheetWritten(SheetWritten),
 }
 
 impl Answer {
@@ -83,9 +97,12 @@ impl Answer {
             Answer::Assurance(a) => a.refusal,
             Answer::Homeward(a) => a.refusal,
             Answer::Drove(a) => a.refusal,
+            Answer::Checked(a) => a.refusal,
             Answer::Counted(a) => a.refusal,
             Answer::ReadMap(a) => a.refusal,
             Answer::WroteMap(a) => a.refusal,
+            Answer::SheetRead(a) => a.refusal,
+            Answer::SheetWritten(a) => a.refusal,
         }
     }
 }
@@ -110,6 +127,18 @@ pub fn stack_again(input: &Input, room: &mut Room, times: usize) -> Answer {
     Answer::Labelling(again(times, label))
 }
 
+/// The distances of the whole map by looking from each crossing, so many times.
+#[inline(never)]
+pub fn look_again(input: &Input, room: &mut Room, times: usize) -> Answer {
+    let (list, n) = (black_box(&input.list[..]), input.list.len());
+    let (w, h) = black_box((input.side, input.side));
+    let labels = &mut room.labels;
+    let (east, south) = (&mut room.east, &mut room.south);
+    let (west, north) = (&mut room.west, &mut room.north);
+    let measure = || Looking::measure(list, n, w, h, labels, east, south, west, north);
+    Answer::Refusal(again(times, measure))
+}
+
 /// One side's call, so many times over the same input into the same room, and the last answer. The room holds what the last call left.
 #[inline(never)]
 pub fn repeat<L: Layer>(call: Call, input: &Input, room: &mut Room, times: usize) -> Answer {
@@ -129,6 +158,15 @@ pub fn repeat<L: Layer>(call: Call, input: &Input, room: &mut Room, times: usize
         Call::Write => {
             let write = || L::write(list, n, w, h, &mut room.out);
             Answer::WroteMap(again(times, write))
+        }
+        Call::Check => check_again::<L>(input, room, times),
+        Call::ReadSheet => {
+            let read = || L::read_sheet(black_box(&input.picture), &mut room.east);
+            Answer::SheetRead(again(times, read))
+        }
+        Call::WriteSheet => {
+            let write = || L::write_sheet(black_box(&input.sheet), w, h, &mut room.out);
+            Answer::SheetWritten(again(times, write))
         }
         Call::Region | Call::Drive => drive_again::<L>(call, input, room, times),
         _ => ask_again::<L>(call, input, room, times),
@@ -180,6 +218,17 @@ fn drive_again<L: Layer>(call: Call, input: &Input, room: &mut Room, times: usiz
         L::drive(list, n, w, h, sx, sy, dx, dy, labels, g, route, z)
     };
     Answer::Drove(again(times, drive))
+}
+
+/// The check of a drive from one end to the other.
+fn check_again<L: Layer>(input: &Input, room: &mut Room, times: usize) -> Answer {
+    let (list, n) = (black_box(&input.list[..]), input.list.len());
+    let (w, h) = black_box((input.side, input.side));
+    let ((sx, sy), (dx, dy)) = black_box((input.s, input.d));
+    let drawn = black_box(&input.drawn[..]);
+    let labels = &mut room.labels;
+    let check = || L::check(list, n, w, h, sx, sy, dx, dy, labels, drawn);
+    Answer::Checked(again(times, check))
 }
 
 /// Enters the map's first marker, before all others, into a list that it fills: every other marker moves.

@@ -18,9 +18,14 @@ pub struct Input {
     /// The map as a P1 file with a row a line, and as a P4 file.
     pub text: Vec<u8>,
     pub packed: Vec<u8>,
+    /// A sheet of bytes, and the same as a P5 picture.
+    pub sheet: Vec<u8>,
+    pub picture: Vec<u8>,
     /// The ends of region and drive.
     pub s: Place,
     pub d: Place,
+    /// A drive between them, where there is one, as it might be drawn by hand.
+    pub drawn: Vec<u16>,
     /// Home and place of assurance and hop.
     pub home: Place,
     pub place: Place,
@@ -30,13 +35,17 @@ impl Input {
     /// The map of this name, or none where there is no such name.
     pub fn new(name: &str, side: usize) -> Option<Input> {
         let map = maps::rocks(name, side)?;
+        let sheet: Vec<u8> = (0..side * side).map(|i| (i * 37 % 251) as u8).collect();
         let mut input = Input {
             side,
+            picture: picture(&sheet, side),
+            sheet,
             list: markers(&map, side),
             text: text(&map, side),
             packed: packed(&map, side),
             s: (0, 0),
             d: (side - 1, side - 1),
+            drawn: Vec::new(),
             home: (0, 0),
             place: (side - 1, side - 1),
         };
@@ -62,6 +71,7 @@ impl Input {
         let homes = near().map(|home| (home, self.farthest_assured(home, &open)));
         let hop = homes.max_by_key(|&(home, place)| distance(home, place));
         (self.s, self.d) = ends.unwrap_or((self.s, self.d));
+        self.drawn = self.a_drive();
         (self.home, self.place) = hop.unwrap_or((self.home, self.place));
     }
 
@@ -71,6 +81,21 @@ impl Input {
         let mut region = labels.clone();
         let (labels, region) = (&mut labels, &mut region);
         Plain::region(list, n, side, side, sx, sy, dx, dy, labels, region) == 0
+    }
+
+    /// A drive from s to d, or nothing.
+    fn a_drive(&self) -> Vec<u16> {
+        let (list, n, side) = (&self.list, self.list.len(), self.side);
+        let ((sx, sy), (dx, dy)) = (self.s, self.d);
+        let mut labels = vec![0; side * side];
+        let mut region = labels.clone();
+        let mut route = vec![0; 2 * side];
+        let (labels, region, mut z) = (&mut labels, &mut region, 1);
+        let drove = Plain::drive(
+            list, n, side, side, sx, sy, dx, dy, labels, region, &mut route, &mut z,
+        );
+        route.truncate(drove.length);
+        route
     }
 
     /// The open crossing farthest from an open home for which home is assured: both offsets are at most home's distances, or there
@@ -128,5 +153,12 @@ fn packed(map: &[bool], side: usize) -> Vec<u8> {
             file.push(bits.fold(0, |byte, (j, &rock)| byte | (rock as u8) << (7 - j)));
         }
     }
+    file
+}
+
+/// A sheet as a P5 picture.
+fn picture(sheet: &[u8], side: usize) -> Vec<u8> {
+    let mut file = format!("P5\n{side} {side}\n255\n").into_bytes();
+    file.extend(sheet.chunks(side).rev().flatten());
     file
 }

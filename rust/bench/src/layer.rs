@@ -1,6 +1,8 @@
-//! The eleven calls as both sides have them: over lent slices, with the answers of `grainbodkin-sys`.
+//! The fourteen calls as both sides have them: over lent slices, with the answers of
+//! `grainbodkin-sys`.
 use grainbodkin_sys::{
-    Assurance, Counted, Drove, Four, Homeward, Labelling, Marker, ReadMap, WroteMap,
+    Assurance, Checked, Counted, Drove, Four, Homeward, Labelling, Marker, ReadMap, SheetRead,
+    SheetWritten, WroteMap,
 };
 
 /// The two calls that change the list.
@@ -18,7 +20,7 @@ pub trait Listing {
     fn clear(list: &mut [Marker], count: usize, w: usize, h: usize, id: u16) -> Counted;
 }
 
-/// All eleven.
+/// All fourteen.
 pub trait Layer: Listing {
     fn label(list: &[Marker], count: usize, w: usize, h: usize, labels: &mut [u8]) -> Labelling;
 
@@ -96,7 +98,24 @@ pub trait Layer: Listing {
         state: &mut u32,
     ) -> Drove;
 
+    fn check(
+        list: &[Marker],
+        count: usize,
+        w: usize,
+        h: usize,
+        sx: usize,
+        sy: usize,
+        dx: usize,
+        dy: usize,
+        labels: &mut [u8],
+        drawn: &[u16],
+    ) -> Checked;
+
     fn read(file: &[u8], list: &mut [Marker]) -> ReadMap;
 
     fn write(list: &[Marker], count: usize, w: usize, h: usize, out: &mut [u8]) -> WroteMap;
+
+    fn write_sheet(sheet: &[u8], w: usize, h: usize, out: &mut [u8]) -> SheetWritten;
+
+    fn read_sheet(file: &[u8], sheet: &mut [u8]) -> SheetRead;
 }

@@ -2,7 +2,10 @@
 //! so every `unsafe` below rests on the slices alone.
 use crate::layer::{Layer, Listing};
 use grainbodkin_sys as sys;
-use sys::{Assurance, Counted, Drove, Four, Homeward, Labelling, Marker, ReadMap, WroteMap};
+use sys::{
+    Assurance, Checked, Counted, Drove, Four, Homeward, Labelling, Marker, ReadMap, SheetRead,
+    SheetWritten, WroteMap,
+};
 
 pub struct Library;
 
@@ -185,6 +188,37 @@ impl Layer for Library {
         }
     }
 
+    fn check(
+        list: &[Marker],
+        count: usize,
+        w: usize,
+        h: usize,
+        sx: usize,
+        sy: usize,
+        dx: usize,
+        dy: usize,
+        labels: &mut [u8],
+        drawn: &[u16],
+    ) -> Checked {
+        unsafe {
+            sys::bodkin_check(
+                list.as_ptr(),
+                list.len(),
+                count,
+                w,
+                h,
+                sx,
+                sy,
+                dx,
+                dy,
+                labels.as_mut_ptr(),
+                labels.len(),
+                drawn.as_ptr(),
+                drawn.len(),
+            )
+        }
+    }
+
     fn read(file: &[u8], list: &mut [Marker]) -> ReadMap {
         unsafe { sys::bodkin_read(file.as_ptr(), file.len(), list.as_mut_ptr(), list.len()) }
     }
@@ -192,5 +226,16 @@ impl Layer for Library {
     fn write(list: &[Marker], count: usize, w: usize, h: usize, out: &mut [u8]) -> WroteMap {
         let n = out.len();
         unsafe { sys::bodkin_write(list.as_ptr(), list.len(), count, w, h, out.as_mut_ptr(), n) }
+    }
+
+    fn write_sheet(sheet: &[u8], w: usize, h: usize, out: &mut [u8]) -> SheetWritten {
+        let n = out.len();
+        unsafe { sys::bodkin_write_sheet(sheet.as_ptr(), sheet.len(), w, h, out.as_mut_ptr(), n) }
+    }
+
+    fn read_sheet(file: &[u8], sheet: &mut [u8]) -> SheetRead {
+        unsafe {
+            sys::bodkin_read_sheet(file.as_ptr(), file.len(), sheet.as_mut_ptr(), sheet.len())
+        }
     }
 }

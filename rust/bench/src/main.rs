@@ -2,8 +2,8 @@
 //!
 //!     bench                               asserts that both sides agree on every row, then prints each row's times and their ratio
 //!     bench rows                          the rows: call, side, map
-//!     bench one CALL SIDE MAP WHICH COUNT makes one side's call so many times, for a profile; WHICH is library, plain, or, to enter and
-//!                                         clear alone, block, or, to label alone, stack
+//!     bench one CALL SIDE MAP WHICH COUNT makes one side's call so many times, for a profile; WHICH is library, plain, or
+//!                                         another plain method: block, to enter and clear; stack, to label; looking, to measure
 //!     bench counted CALL...               makes each row's call once and nine times, on every side, with marks between, for a count of
 //!                                         instructions; of these calls alone where any are named
 //!     bench show MAP SIDE                 a map and its labels
@@ -19,7 +19,7 @@ mod plain;
 mod room;
 mod timing;
 
-use calls::{clear_again, enter_again, repeat, stack_again, Answer, Call, CALLS};
+use calls::{clear_again, enter_again, look_again, repeat, stack_again, Answer, Call, CALLS};
 use input::Input;
 use layer::Layer;
 use library::Library;
@@ -42,7 +42,7 @@ fn main() -> ExitCode {
     };
     if done.is_none() {
         eprintln!(
-            "usage: bench [rows | counted CALL... | one CALL SIDE MAP library|plain|block|stack COUNT | show MAP SIDE]"
+            "usage: bench [rows | counted CALL... | one CALL SIDE MAP library|plain|block|stack|looking COUNT | show MAP SIDE]"
         );
         return ExitCode::FAILURE;
     }
@@ -112,36 +112,31 @@ fn agree(name: &str, call: Call, input: &Input, map: &str) -> Answer {
     let (plain, plain_room) = after::<Plain>(call, input);
     assert_eq!(library, plain, "{name} {} {map}: answers", input.side);
     assert_eq!(library_room, plain_room, "{name} {} {map}", input.side);
-    if call == Call::Label {
+    if let Some((which, other)) = other(call) {
         let mut room = Room::new(input);
-        let stack = stack_again(input, &mut room, 2);
-        assert_eq!(
-            (library, &library_room),
-            (stack, &room),
-            "{name} {} {map}",
-            input.side
-        );
-    }
-    if let Some(block) = block(call, input, 2) {
         assert_eq!(
             (library, library_room),
-            block,
-            "{name} {} {map}",
+            (other(input, &mut room, 2), room),
+            "{name} {} {map}: {which}",
             input.side
         );
     }
     library
 }
 
-/// Entering or clearing by block moves so many times; no other call has them.
-fn block(call: Call, input: &Input, count: usize) -> Option<(Answer, Room)> {
-    let mut room = Room::new(input);
-    let answer = match call {
-        Call::Enter => enter_again::<Block>(input, &mut room, count),
-        Call::Clear => clear_again::<Block>(input, &mut room, count),
-        _ => return None,
-    };
-    Some((answer, room))
+/// A call so many times over, into a room.
+type Method = fn(&Input, &mut Room, usize) -> Answer;
+
+/// A call's other plain method and its name: block moves to enter and clear, a stack to label, looking from each crossing to measure. No other call
+/// has one.
+fn other(call: Call) -> Option<(&'static str, Method)> {
+    match call {
+        Call::Enter => Some(("block", enter_again::<Block>)),
+        Call::Clear => Some(("block", clear_again::<Block>)),
+        Call::Label => Some(("stack", stack_again)),
+        Call::Measure => Some(("looking", look_again)),
+        _ => None,
+    }
 }
 
 fn after<L: Layer>(call: Call, input: &Input) -> (Answer, Room) {
@@ -155,9 +150,10 @@ fn made(call: Call, input: &Input, which: &str, count: usize) -> Option<Answer> 
     match which {
         "library" => Some(repeat::<Library>(call, input, &mut room, count)),
         "plain" => Some(repeat::<Plain>(call, input, &mut room, count)),
-        "block" => Some(block(call, input, count)?.0),
-        "stack" if call == Call::Label => Some(stack_again(input, &mut room, count)),
-        _ => None,
+        _ => {
+            let (_, other) = other(call).filter(|o| o.0 == which)?;
+            Some(other(input, &mut room, count))
+        }
     }
 }
 
@@ -182,10 +178,11 @@ fn counted(calls: &[&str]) -> Option<()> {
             return;
         }
         let input = input(map, side);
-        for which in ["library", "plain", "block", "stack"] {
-            if made(call, &input, which, 1).is_none() {
-                continue;
-            }
+        for which in ["library", "plain"]
+            .into_iter()
+            .chain(other(call).map(|o| o.0))
+        {
+            made(call, &input, which, 1);
             bench_mark(0);
             made(call, &input, which, 1);
             bench_mark(1);

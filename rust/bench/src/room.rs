@@ -35,7 +35,7 @@ impl Room {
             north: vec![9; size],
             route: vec![9; 2 * input.side],
             state: 9,
-            out: vec![9; input.packed.len() + 1],
+            out: vec![9; input.packed.len().max(input.picture.len()) + 1],
             slots: vec![stale; input.list.len() + 1],
         }
     }

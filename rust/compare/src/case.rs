@@ -3,7 +3,7 @@
 use independent::map::{Crossing, Map};
 use independent::markers::Marker;
 
-/// The eleven calls.
+/// The fourteen calls.
 #[derive(Clone, Copy, Debug, PartialEq, Eq)]
 pub enum Call {
     Enter,
@@ -15,11 +15,14 @@ pub enum Call {
     Hop,
     Region,
     Drive,
+    Check,
     Read,
     Write,
+    WriteSheet,
+    ReadSheet,
 }
 
-pub const CALLS: [Call; 11] = [
+pub const CALLS: [Call; 14] = [
     Call::Enter,
     Call::Clear,
     Call::Label,
@@ -29,8 +32,11 @@ pub const CALLS: [Call; 11] = [
     Call::Hop,
     Call::Region,
     Call::Drive,
+    Call::Check,
     Call::Read,
     Call::Write,
+    Call::WriteSheet,
+    Call::ReadSheet,
 ];
 
 impl Call {
@@ -45,12 +51,15 @@ impl Call {
             Call::Hop => "hop",
             Call::Region => "region",
             Call::Drive => "drive",
+            Call::Check => "check",
             Call::Read => "read",
             Call::Write => "write",
+            Call::WriteSheet => "picture",
+            Call::ReadSheet => "pictured",
         }
     }
 
-    /// Success and the refusals that document 01's table makes possible for the call.
+    /// Success and the refusals that are possible for the call.
     pub fn possible(self) -> &'static [u8] {
         match self {
             Call::Enter => &[0, 1, 3, 4, 5, 7],
@@ -62,8 +71,11 @@ impl Call {
             Call::Hop => &[0, 1, 2, 3, 4, 8, 11],
             Call::Region => &[0, 1, 2, 3, 4, 8, 9],
             Call::Drive => &[0, 1, 2, 3, 4, 8, 9, 10],
+            Call::Check => &[0, 1, 2, 3, 4, 8],
             Call::Read => &[0, 1, 7, 12, 13, 14, 15],
             Call::Write => &[0, 1, 3, 16, 17],
+            Call::WriteSheet => &[0, 1, 2, 17],
+            Call::ReadSheet => &[0, 1, 2, 12, 13, 14, 15, 18],
         }
     }
 
@@ -71,7 +83,7 @@ impl Call {
     pub fn places(self) -> usize {
         match self {
             Call::Enter | Call::Distances => 1,
-            Call::Assured | Call::Hop | Call::Region | Call::Drive => 2,
+            Call::Assured | Call::Hop | Call::Region | Call::Drive | Call::Check => 2,
             _ => 0,
         }
     }
@@ -79,7 +91,7 @@ impl Call {
     /// How many sheets are lent.
     pub fn sheets(self) -> usize {
         match self {
-            Call::Label | Call::Distances | Call::Assured | Call::Hop => 1,
+            Call::Label | Call::Distances | Call::Assured | Call::Hop | Call::Check => 1,
             Call::Region | Call::Drive => 2,
             Call::Measure => 5,
             _ => 0,
@@ -95,8 +107,12 @@ pub struct Memory {
     /// East, south, west, north.
     pub sheets: [Vec<u8>; 4],
     pub region: Vec<u8>,
+    /// The sheet of a picture.
+    pub picture: Vec<u8>,
     pub route: Vec<u16>,
     pub state: u32,
+    /// A drawn list, which is only read.
+    pub drawn: Vec<u16>,
     pub file: Vec<u8>,
     pub out: Vec<u8>,
 }

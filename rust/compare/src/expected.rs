@@ -1,7 +1,7 @@
 //! What the independent program says of a case.
 use crate::case::{After, Call, Case, Memory};
 use independent::asking::Asking;
-use independent::{distances, drives, files, hops, labels, markers};
+use independent::{checks, distances, drives, files, hops, labels, markers, pictures};
 
 /// The independent program's answer and memory after the call.
 pub fn expect(case: &Case) -> After {
@@ -15,8 +15,11 @@ pub fn expect(case: &Case) -> After {
         Call::Hop => hop(case, &mut memory),
         Call::Region => region(case, &mut memory),
         Call::Drive => drive(case, &mut memory),
+        Call::Check => check(case, &mut memory),
         Call::Read => read(case, &mut memory),
         Call::Write => write(case, &mut memory),
+        Call::WriteSheet => write_sheet(case, &mut memory),
+        Call::ReadSheet => read_sheet(case, &mut memory),
     };
     After {
         refusal,
@@ -113,6 +116,16 @@ fn drive(case: &Case, memory: &mut Memory) -> Answer {
     (after.refusal, vec![("length", after.length)])
 }
 
+fn check(case: &Case, memory: &mut Memory) -> Answer {
+    let after = checks::check(asking(case), &case.before.drawn);
+    memory.labels = after.labels;
+    let answer = vec![
+        ("reason", usize::from(after.reason)),
+        ("position", after.position),
+    ];
+    (after.refusal, answer)
+}
+
 fn read(case: &Case, memory: &mut Memory) -> Answer {
     let after = files::read(&case.before.file, &case.before.list);
     memory.list = after.list;
@@ -128,4 +141,17 @@ fn write(case: &Case, memory: &mut Memory) -> Answer {
     let after = files::write(&case.before.list, case.count, case.map, &case.before.out);
     memory.out = after.out;
     (after.refusal, vec![("bytes", after.bytes)])
+}
+
+fn write_sheet(case: &Case, memory: &mut Memory) -> Answer {
+    let after = pictures::write(&case.before.picture, case.map, &case.before.out);
+    memory.out = after.out;
+    (after.refusal, vec![("bytes", after.bytes)])
+}
+
+fn read_sheet(case: &Case, memory: &mut Memory) -> Answer {
+    let after = pictures::read(&case.before.file, &case.before.picture);
+    memory.picture = after.sheet;
+    let answer = vec![("width", after.width), ("height", after.height)];
+    (after.refusal, answer)
 }

@@ -10,8 +10,10 @@ pub struct Lendings {
     pub labels: Lent<u8>,
     pub sheets: [Lent<u8>; 4],
     pub region: Lent<u8>,
+    pub picture: Lent<u8>,
     pub route: Lent<u16>,
     pub state: Lent<u32>,
+    pub drawn: Lent<u16>,
     pub file: Lent<u8>,
     pub out: Lent<u8>,
 }
@@ -29,8 +31,10 @@ impl Lendings {
             labels: bytes(&before.labels),
             sheets: std::array::from_fn(|way| bytes(&before.sheets[way])),
             region: bytes(&before.region),
+            picture: bytes(&before.picture),
             route: Lent::new(before.route.iter().copied()),
             state: Lent::new([before.state].into_iter()),
+            drawn: Lent::new(before.drawn.iter().copied()),
             file: bytes(&before.file),
             out: bytes(&before.out),
         }
@@ -47,8 +51,10 @@ impl Lendings {
             labels: self.labels.content().to_vec(),
             sheets: std::array::from_fn(|way| self.sheets[way].content().to_vec()),
             region: self.region.content().to_vec(),
+            picture: self.picture.content().to_vec(),
             route: self.route.content().to_vec(),
             state: self.state.content()[0],
+            drawn: self.drawn.content().to_vec(),
             file: self.file.content().to_vec(),
             out: self.out.content().to_vec(),
         }
@@ -64,8 +70,10 @@ impl Lendings {
             ("west", self.sheets[2].intact()),
             ("north", self.sheets[3].intact()),
             ("region", self.region.intact()),
+            ("picture", self.picture.intact()),
             ("route", self.route.intact()),
             ("state", self.state.intact()),
+            ("drawn", self.drawn.intact()),
             ("file", self.file.intact()),
             ("out", self.out.intact()),
         ];

@@ -18,8 +18,11 @@ pub fn run(case: &Case) -> (After, Vec<&'static str>) {
         Call::Hop => hop(case, &mut lent),
         Call::Region => region(case, &mut lent),
         Call::Drive => drive(case, &mut lent),
+        Call::Check => check(case, &mut lent),
         Call::Read => read(case, &mut lent),
         Call::Write => write(case, &mut lent),
+        Call::WriteSheet => write_sheet(case, &mut lent),
+        Call::ReadSheet => read_sheet(case, &mut lent),
     };
     let after = After {
         refusal,
@@ -224,6 +227,32 @@ fn drive(case: &Case, lent: &mut Lendings) -> Answer {
     (after.refusal, vec![("length", after.length)])
 }
 
+fn check(case: &Case, lent: &mut Lendings) -> Answer {
+    let [s, d] = case.places;
+    let after = unsafe {
+        sys::bodkin_check(
+            lent.list.pointer(),
+            lent.list.len(),
+            case.count,
+            case.map.width,
+            case.map.height,
+            s.x,
+            s.y,
+            d.x,
+            d.y,
+            lent.labels.pointer(),
+            lent.labels.len(),
+            lent.drawn.pointer(),
+            lent.drawn.len(),
+        )
+    };
+    let answer = vec![
+        ("reason", usize::from(after.reason)),
+        ("position", after.position),
+    ];
+    (after.refusal, answer)
+}
+
 fn read(_: &Case, lent: &mut Lendings) -> Answer {
     let after = unsafe {
         sys::bodkin_read(
@@ -254,4 +283,31 @@ fn write(case: &Case, lent: &mut Lendings) -> Answer {
         )
     };
     (after.refusal, vec![("bytes", after.bytes)])
+}
+
+fn write_sheet(case: &Case, lent: &mut Lendings) -> Answer {
+    let after = unsafe {
+        sys::bodkin_write_sheet(
+            lent.picture.pointer(),
+            lent.picture.len(),
+            case.map.width,
+            case.map.height,
+            lent.out.pointer(),
+            lent.out.len(),
+        )
+    };
+    (after.refusal, vec![("bytes", after.bytes)])
+}
+
+fn read_sheet(_: &Case, lent: &mut Lendings) -> Answer {
+    let after = unsafe {
+        sys::bodkin_read_sheet(
+            lent.file.pointer(),
+            lent.file.len(),
+            lent.picture.pointer(),
+            lent.picture.len(),
+        )
+    };
+    let answer = vec![("width", after.width), ("height", after.height)];
+    (after.refusal, answer)
 }

@@ -9,6 +9,7 @@
 //! call, to find a call that does not come back. The status is 0 only without a difference and, in
 //! a whole run, with everything reached.
 mod case;
+mod drawings;
 mod edits;
 mod expected;
 mod guard;
@@ -21,6 +22,7 @@ mod making;
 mod mapfiles;
 mod maps;
 mod options;
+mod picturefiles;
 mod places;
 mod program;
 mod random;

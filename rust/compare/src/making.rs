@@ -1,16 +1,18 @@
 //! Makes the case with a given number: a call, a map, a list, places and buffers, and now and then
 //! something harmed.
 use crate::case::{Call, Case};
-use crate::harms::harm;
+use crate::drawings;
+use crate::harms::{harm, SIZE_HARMS};
 use crate::lists::{lend, noise};
 use crate::mapfiles;
 use crate::maps::{rocks, size};
+use crate::picturefiles;
 use crate::places;
 use crate::random::{Random, Weighted};
 use independent::map::Map;
 
-/// How often each call is made, among a hundred.
-const WEIGHTS: [Weighted<Call>; 11] = [
+/// How often each call is made, by weight.
+const WEIGHTS: [Weighted<Call>; 14] = [
     ("enter", 9, Call::Enter),
     ("clear", 6, Call::Clear),
     ("label", 10, Call::Label),
@@ -20,8 +22,11 @@ const WEIGHTS: [Weighted<Call>; 11] = [
     ("hop", 10, Call::Hop),
     ("region", 8, Call::Region),
     ("drive", 12, Call::Drive),
+    ("check", 15, Call::Check),
     ("read", 17, Call::Read),
     ("write", 7, Call::Write),
+    ("write a sheet", 12, Call::WriteSheet),
+    ("read a sheet", 18, Call::ReadSheet),
 ];
 
 /// How many harms a case comes to.
@@ -33,6 +38,9 @@ pub fn make(seed: u64, index: u64) -> Case {
     let (_, call) = random.by_weight(&WEIGHTS);
     if call == Call::Read {
         return read_case(&mut random);
+    }
+    if call == Call::WriteSheet || call == Call::ReadSheet {
+        return picture_case(&mut random, call);
     }
     let (size, map) = size(&mut random);
     let (shape, rocks) = rocks(&mut random, map);
@@ -59,6 +67,42 @@ fn read_case(random: &mut Random) -> Case {
     case
 }
 
+/// A sheet and a picture, or room for one: the sheet about as long as the map, full of noise.
+fn picture_case(random: &mut Random, call: Call) -> Case {
+    let (name, map) = size(random);
+    let mut case = Case::new(call, map);
+    case.notes = vec![name];
+    let crossings = map.width * map.height;
+    if call == Call::ReadSheet {
+        let (notes, file) = picturefiles::file(random, map);
+        case.notes.extend(notes);
+        case.before.file = file;
+        let length = if random.percent(70) {
+            crossings
+        } else {
+            about(random, &mut case, crossings)
+        };
+        case.before.picture = random.bytes(length);
+        return case;
+    }
+    let length = if random.percent(80) {
+        crossings
+    } else {
+        about(random, &mut case, crossings)
+    };
+    case.before.picture = random.bytes(length);
+    let digits = |side: usize| if side < 10 { 1 } else { 2 };
+    let needed = 9 + digits(map.width) + digits(map.height) + crossings;
+    let length = about(random, &mut case, needed);
+    case.before.out = random.bytes(length);
+    if random.percent(10) {
+        let (name, harm) = random.pick(&SIZE_HARMS);
+        harm(random, &mut case);
+        case.notes.push(name);
+    }
+    case
+}
+
 /// Sheets of the right size, a route about as long as the drive, an output about as long as the
 /// file; all full of noise.
 fn lend_buffers(random: &mut Random, case: &mut Case) {
@@ -78,6 +122,11 @@ fn lend_buffers(random: &mut Random, case: &mut Case) {
         case.before.route = (0..length).map(|_| random.word()).collect();
         let any = random.next() as u32;
         case.before.state = random.pick(&[0, 1, u32::MAX, any, any, any]);
+    }
+    if case.call == Call::Check {
+        let (names, drawn) = drawings::draw(random, case);
+        case.notes.extend(names);
+        case.before.drawn = drawn;
     }
     if case.call == Call::Write {
         let digits = |side: usize| if side < 10 { 1 } else { 2 };

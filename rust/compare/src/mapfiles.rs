@@ -12,6 +12,9 @@ pub struct Parts {
     pub width: Vec<u8>,
     pub before_height: Vec<u8>,
     pub height: Vec<u8>,
+    /// Of a picture: the largest value, and what stands before it.
+    pub before_largest: Vec<u8>,
+    pub largest: Vec<u8>,
     pub blank: Vec<u8>,
     pub raster: Vec<u8>,
     /// Whether the raster is plain, and where its last digit ends.
@@ -30,6 +33,8 @@ impl Parts {
             &self.width,
             &self.before_height,
             &self.height,
+            &self.before_largest,
+            &self.largest,
             &self.blank,
             &self.raster,
         ]
@@ -40,10 +45,10 @@ impl Parts {
     }
 }
 
-const BLANKS: [u8; 4] = [b' ', b'\t', b'\r', b'\n'];
+pub const BLANKS: [u8; 4] = [b' ', b'\t', b'\r', b'\n'];
 
 /// One or more blanks and comments, at least one a blank.
-fn separator(random: &mut Random) -> Vec<u8> {
+pub fn separator(random: &mut Random) -> Vec<u8> {
     if random.percent(50) {
         return vec![random.pick(&BLANKS)];
     }
@@ -75,7 +80,7 @@ fn comment(random: &mut Random) -> Vec<u8> {
 }
 
 /// The number with up to as many leading zeros as nine digits leave room for.
-fn number(random: &mut Random, value: usize) -> Vec<u8> {
+pub fn number(random: &mut Random, value: usize) -> Vec<u8> {
     let digits = value.to_string();
     let zeros = if random.percent(20) {
         random.below(10 - digits.len())

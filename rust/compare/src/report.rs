@@ -30,8 +30,14 @@ pub fn differences(expected: &After, seen: &After) -> Vec<String> {
         lines.extend(buffer(&name, &want.sheets[way], &got.sheets[way]));
     }
     lines.extend(buffer("region sheet, crossing", &want.region, &got.region));
+    lines.extend(buffer(
+        "picture's sheet, crossing",
+        &want.picture,
+        &got.picture,
+    ));
     lines.extend(buffer("route, place", &want.route, &got.route));
     lines.extend(buffer("state, number", &[want.state], &[got.state]));
+    lines.extend(buffer("drawn list, position", &want.drawn, &got.drawn));
     lines.extend(buffer("file, byte", &want.file, &got.file));
     lines.extend(buffer("output, byte", &want.out, &got.out));
     lines
@@ -56,6 +62,9 @@ fn buffer<T: PartialEq + Debug>(name: &str, want: &[T], got: &[T]) -> Option<Str
 
 /// So many slots of a list are told.
 const SLOTS: usize = 40;
+
+/// So many numbers of a drawn list are told; no shortest drive has more.
+const DRAWN: usize = 127;
 
 /// Bytes as they may be printed; of many, those at both ends.
 pub fn shortened(bytes: &[u8]) -> String {
@@ -94,12 +103,13 @@ pub fn describe(case: &Case) -> String {
     );
     let _ = writeln!(
         text,
-        "  lengths: list {}, labels {}, sheets {:?}, region {}, route {}, file {}, output {}",
+        "  lengths: list {}, labels {}, sheets {:?}, region {}, route {}, drawn {}, file {}, output {}",
         m.list.len(),
         m.labels.len(),
         m.sheets.each_ref().map(Vec::len),
         m.region.len(),
         m.route.len(),
+        m.drawn.len(),
         m.file.len(),
         m.out.len()
     );
@@ -108,6 +118,10 @@ pub fn describe(case: &Case) -> String {
         .map(|m| format!("{}:({},{})", m.id, m.x, m.y))
         .collect();
     let _ = writeln!(text, "  first slots: {}", slots.join(" "));
+    if case.call == Call::Check {
+        let first = &m.drawn[..m.drawn.len().min(DRAWN)];
+        let _ = writeln!(text, "  first numbers drawn: {first:?}");
+    }
     if case.call == Call::Read {
         let _ = writeln!(text, "  file: {}", shortened(&m.file));
     }
@@ -145,7 +159,7 @@ mod tests {
     /// Every part of what is seen after a call is compared: a change of any one of them is told.
     #[test]
     fn each_part_is_compared() {
-        let changes: [Change; 11] = [
+        let changes: [Change; 12] = [
             ("refusal", |a| a.refusal ^= 1),
             ("list", |a| a.memory.list.push(Default::default())),
             ("label sheet", |a| a.memory.labels.push(0)),
@@ -156,6 +170,7 @@ mod tests {
             ("region", |a| a.memory.region.push(0)),
             ("route", |a| a.memory.route.push(0)),
             ("state", |a| a.memory.state ^= 1),
+            ("drawn", |a| a.memory.drawn.push(0)),
             ("output", |a| a.memory.out.push(0)),
         ];
         let expected = expect(&make(1, 1));

@@ -1,11 +1,11 @@
 //! What was reached: how often each call ended with each number, and how often each thing that
 //! cases are made of was used.
 use crate::case::{After, Call, Case, CALLS};
-use crate::{edits, harms, lists, making, mapfiles, maps, places};
+use crate::{drawings, edits, harms, lists, making, mapfiles, maps, picturefiles, places};
 use std::collections::BTreeMap;
 
 /// Refusal numbers go to this.
-const LAST: usize = 17;
+const LAST: usize = 18;
 
 /// A run with fewer cases is not held to reach everything.
 pub const WHOLE: u64 = 100_000;
@@ -107,11 +107,44 @@ fn kinds(case: &Case, after: &After) -> Option<&'static str> {
         (Call::Hop, 0, _) => Some("answered: two hops"),
         (Call::Drive, 0, 1) => Some("answered: a drive of no hops"),
         (Call::Drive, 0, 61..) => Some("answered: a drive of 60 hops or more"),
+        (Call::Check, 0, reason) => Some(found(reason, after.answer[1].1, case.before.drawn.len())),
         (Call::Enter, 7, _) if case.count < case.before.list.len() => {
             Some("answered: no slot by the limit, though the list has one")
         }
         _ => None,
     }
+}
+
+/// What the check found: every reason at every kind of position at which it can be.
+const FOUND: [&str; 16] = [
+    "found: accepted, no hops",
+    "found: accepted, with hops",
+    "found: wrong start",
+    "found: off the map, at position 1",
+    "found: off the map, later",
+    "found: closed, at position 1",
+    "found: closed, later",
+    "found: not a neighbour, at position 1",
+    "found: not a neighbour, later",
+    "found: not nearer, at position 1",
+    "found: not nearer, later",
+    "found: ended early, empty",
+    "found: ended early, at position 1",
+    "found: ended early, later",
+    "found: went on, at position 1",
+    "found: went on, later",
+];
+
+/// Of an accepted list it is its length that tells its kind.
+fn found(reason: usize, position: usize, length: usize) -> &'static str {
+    let first = match reason {
+        0 => usize::from(length > 1),
+        1 => 2,
+        2..=5 => 2 * reason - 1 + usize::from(position > 1),
+        6 => 11 + position.min(2),
+        _ => 14 + usize::from(position > 1),
+    };
+    FOUND[first]
 }
 
 /// Everything that cases are made of.
@@ -121,6 +154,7 @@ fn names() -> Vec<&'static str> {
         "near or at 4,096 markers",
         "plain file",
         "raw file",
+        "picture",
         "pad bits of noise",
         "answered: not assured",
         "answered: assured",
@@ -132,6 +166,9 @@ fn names() -> Vec<&'static str> {
         "answered: no slot by the limit, though the list has one",
         "a list of no slots",
     ];
+    names.extend(FOUND);
+    names.extend(drawings::BEGINNINGS.iter().map(|(name, _, _)| *name));
+    names.extend(drawings::CHANGES.iter().map(|(name, _, _)| *name));
     names.extend(maps::SIZES.iter().map(|(name, _, _)| *name));
     names.extend(maps::SHAPES.iter().map(|(name, _, _)| *name));
     names.extend(places::PLACES.iter().map(|(name, _, _)| *name));
@@ -140,6 +177,7 @@ fn names() -> Vec<&'static str> {
     names.extend(harms::SIZE_HARMS.iter().map(|(name, _)| *name));
     names.extend(harms::SHEET_HARMS.iter().map(|(name, _)| *name));
     names.extend(harms::PLACE_HARMS.iter().map(|(name, _)| *name));
+    names.extend(picturefiles::PICTURE_HARMS.iter().map(|(name, _)| *name));
     names.extend(mapfiles::NOISES.iter().map(|(name, _)| *name));
     names.extend(edits::EDITS.iter().map(|(name, _)| *name));
     names.extend(edits::BYTE_EDITS.iter().map(|(name, _)| *name));
@@ -170,7 +208,7 @@ mod tests {
         let mut tally = Tally::new();
         let case = making::make(1, 1);
         let (mut after, _) = library::run(&case);
-        for strange in [18, 255] {
+        for strange in [19, 255] {
             after.refusal = strange;
             tally.count(&case, &after);
         }

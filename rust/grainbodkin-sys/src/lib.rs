@@ -1,4 +1,4 @@
-//! The eleven calls of the proved static library, as `include/grainbodkin.h` declares them. A slice
+//! The fourteen calls of the proved static library, as `include/grainbodkin.h` declares them. A slice
 //! goes as pointer and length.
 //!
 //! A pointer is not null, even where its length is 0; it is aligned for its type and points to as
@@ -75,6 +75,16 @@ pub struct Drove {
     pub length: usize,
 }
 
+/// What is found of a drawn list: the reason and the position of the first fault, both 0 for an
+/// accepted list; or the refusal.
+#[repr(C)]
+#[derive(Clone, Copy, Debug, PartialEq, Eq)]
+pub struct Checked {
+    pub refusal: u8,
+    pub reason: u8,
+    pub position: usize,
+}
+
 /// Width, height and number of markers of a map that was read, or the refusal.
 #[repr(C)]
 #[derive(Clone, Copy, Debug, PartialEq, Eq)]
@@ -91,6 +101,23 @@ pub struct ReadMap {
 pub struct WroteMap {
     pub refusal: u8,
     pub bytes: usize,
+}
+
+/// How many bytes of a picture were written, or the refusal.
+#[repr(C)]
+#[derive(Clone, Copy, Debug, PartialEq, Eq)]
+pub struct SheetWritten {
+    pub refusal: u8,
+    pub bytes: usize,
+}
+
+/// Width and height of a picture that was read, or the refusal.
+#[repr(C)]
+#[derive(Clone, Copy, Debug, PartialEq, Eq)]
+pub struct SheetRead {
+    pub refusal: u8,
+    pub width: usize,
+    pub height: usize,
 }
 
 extern "C" {
@@ -217,6 +244,22 @@ extern "C" {
         state: *mut u32,
     ) -> Drove;
 
+    pub fn bodkin_check(
+        list: *const Marker,
+        lent: usize,
+        count: usize,
+        width: usize,
+        height: usize,
+        sx: usize,
+        sy: usize,
+        dx: usize,
+        dy: usize,
+        labels: *mut u8,
+        labels_len: usize,
+        drawn: *const u16,
+        drawn_len: usize,
+    ) -> Checked;
+
     pub fn bodkin_read(file: *const u8, file_len: usize, list: *mut Marker, lent: usize)
         -> ReadMap;
 
@@ -229,4 +272,20 @@ extern "C" {
         out: *mut u8,
         out_len: usize,
     ) -> WroteMap;
+
+    pub fn bodkin_write_sheet(
+        sheet: *const u8,
+        sheet_len: usize,
+        width: usize,
+        height: usize,
+        out: *mut u8,
+        out_len: usize,
+    ) -> SheetWritten;
+
+    pub fn bodkin_read_sheet(
+        file: *const u8,
+        file_len: usize,
+        sheet: *mut u8,
+        sheet_len: usize,
+    ) -> SheetRead;
 }

@@ -1,9 +1,12 @@
 //! What Rust sees at the border, a line each: the size and alignment of every struct, each field's
-//! name, offset and size; the limits; and every refusal in words. tests/border/layout.c prints the
-//! same of C; tests/border/run compares the two.
-use grainbodkin::{Map, Refusal, LONGEST_FILE, MARKERS, NO_DISTANCE, SIDE, STACK};
+//! name, offset and size; the limits; and every refusal and reason in words. tests/border/layout.c
+//! prints the same of C; tests/border/run compares the two.
+use grainbodkin::{
+    Map, Reason, Refusal, LARGEST, LONGEST_FILE, LONGEST_PICTURE, MARKERS, NO_DISTANCE, SIDE, STACK,
+};
 use grainbodkin_sys::{
-    Assurance, Counted, Drove, Four, Homeward, Labelling, Marker, ReadMap, WroteMap,
+    Assurance, Checked, Counted, Drove, Four, Homeward, Labelling, Marker, ReadMap, SheetRead,
+    SheetWritten, WroteMap,
 };
 use std::mem::{align_of, offset_of, size_of, size_of_val};
 
@@ -73,6 +76,14 @@ fn main() {
         }
     );
     layout!(
+        "checked",
+        Checked {
+            refusal: 0,
+            reason: 0,
+            position: 0
+        }
+    );
+    layout!(
         "read_map",
         ReadMap {
             refusal: 0,
@@ -88,11 +99,29 @@ fn main() {
             bytes: 0
         }
     );
+    layout!(
+        "sheet_written",
+        SheetWritten {
+            refusal: 0,
+            bytes: 0
+        }
+    );
+    layout!(
+        "sheet_read",
+        SheetRead {
+            refusal: 0,
+            width: 0,
+            height: 0
+        }
+    );
     let largest = Map::new(SIDE, SIDE).expect("the largest map");
     println!("side {SIDE}\nmarkers {MARKERS}\nno distance {NO_DISTANCE}");
     println!("crossings {}\nroute {}", largest.crossings(), 2 * SIDE - 1);
-    println!("file {LONGEST_FILE}\nstack {STACK}");
+    println!("file {LONGEST_FILE}\npicture {LONGEST_PICTURE}\nlargest {LARGEST}\nstack {STACK}");
     for refusal in Refusal::ALL {
         println!("{refusal}");
+    }
+    for reason in Reason::ALL {
+        println!("reason {}: {reason}", reason.number());
     }
 }

@@ -1,7 +1,8 @@
 //! The askings of an owned list. Each takes memory for its sheets, for so long as it needs them.
 
 use crate::{
-    Chooser, Clear, Distances, Drive, Hops, Labels, Markers, Place, Refusal, Region, LONGEST_FILE,
+    Chooser, Clear, Distances, Drive, Finding, Hops, Labels, Markers, Place, Refusal, Region,
+    LONGEST_FILE,
 };
 
 impl Markers {
@@ -169,6 +170,30 @@ impl Markers {
         let (mut labels, mut region) = (self.sheet(), self.sheet());
         self.lend()
             .drive(s, d, &mut labels, &mut region, route, chooser)
+    }
+
+    /// What is found of a drive that was drawn by hand, a list of crossing numbers: accepted exactly
+    /// if it is a shortest drive from s to d, otherwise the position of the first crossing at fault
+    /// and why. Every [`Drive`] is accepted over the same markers. [`Finding`] has an example.
+    ///
+    /// # Errors
+    ///
+    /// Refuses 4 or 8.
+    ///
+    /// ```
+    /// use grainbodkin::{Chooser, Finding, Map, Markers, Place};
+    ///
+    /// let mut markers = Markers::new(Map::new(8, 8)?, 3);
+    /// for (id, x, y) in [(1, 3, 2), (2, 4, 3), (3, 5, 2)] {
+    ///     markers.enter(id, Place::new(x, y))?;
+    /// }
+    /// let (s, d) = (Place::new(0, 2), Place::new(7, 4));
+    /// let drive = markers.drive(s, d, &mut Chooser(1))?;
+    /// assert_eq!(markers.check(s, d, drive.numbers())?, Finding::Accepted);
+    /// # Ok::<(), grainbodkin::Refusal>(())
+    /// ```
+    pub fn check(&self, s: Place, d: Place, drawn: &[u16]) -> Result<Finding, Refusal> {
+        self.lend().check(s, d, &mut self.sheet(), drawn)
     }
 
     /// Writes the list as a PBM map, P4. Reading it gives the same crossings.

@@ -1,4 +1,4 @@
-//! The eleven calls of the static library, lent slices in place of pointers and lengths. All of the
+//! The fourteen calls of the static library, lent slices in place of pointers and lengths. All of the
 //! crate's `unsafe` is here.
 //!
 //! The library asks five things of its caller; for all else it answers or refuses. Four hold for
@@ -243,6 +243,34 @@ pub(crate) fn drive(
     }
 }
 
+pub(crate) fn check(
+    list: MarkersRef<'_>,
+    s: Place,
+    d: Place,
+    labels: &mut [u8],
+    drawn: &[u16],
+) -> sys::Checked {
+    // SAFETY: each pointer stands before its own slice's length. Only `labels` is written, and it
+    // is lent by `&mut`.
+    unsafe {
+        sys::bodkin_check(
+            pointer(list.slots),
+            list.slots.len(),
+            list.count,
+            list.width,
+            list.height,
+            s.x,
+            s.y,
+            d.x,
+            d.y,
+            labels.as_mut_ptr(),
+            labels.len(),
+            drawn.as_ptr(),
+            drawn.len(),
+        )
+    }
+}
+
 pub(crate) fn read(file: &[u8], slots: &mut [Marker]) -> sys::ReadMap {
     // SAFETY: each pointer stands before its own slice's length. Only `slots` is written, and it is
     // lent by `&mut`.
@@ -263,4 +291,30 @@ pub(crate) fn write(list: MarkersRef<'_>, out: &mut [u8]) -> sys::WroteMap {
             out.len(),
         )
     }
+}
+
+pub(crate) fn write_sheet(
+    sheet: &[u8],
+    width: usize,
+    height: usize,
+    out: &mut [u8],
+) -> sys::SheetWritten {
+    // SAFETY: each pointer stands before its own slice's length. Only `out` is written, and it is
+    // lent by `&mut`.
+    unsafe {
+        sys::bodkin_write_sheet(
+            sheet.as_ptr(),
+            sheet.len(),
+            width,
+            height,
+            out.as_mut_ptr(),
+            out.len(),
+        )
+    }
+}
+
+pub(crate) fn read_sheet(file: &[u8], sheet: &mut [u8]) -> sys::SheetRead {
+    // SAFETY: each pointer stands before its own slice's length. Only `sheet` is written, and it is
+    // lent by `&mut`.
+    unsafe { sys::bodkin_read_sheet(file.as_ptr(), file.len(), sheet.as_mut_ptr(), sheet.len()) }
 }

@@ -1,6 +1,6 @@
 //! The calls over a list that the caller lends: the borrowed forms.
 
-use crate::{calls, Chooser, Clear, Hops, Labelling, Map, Marker, Place, Refusal};
+use crate::{calls, Chooser, Clear, Finding, Hops, Labelling, Map, Marker, Place, Refusal};
 
 /// A lent list of markers with its count, and the size of the map that it is for.
 ///
@@ -172,6 +172,33 @@ impl MarkersRef<'_> {
     ) -> Result<&'r mut [u16], Refusal> {
         let answer = calls::drive(self, s, d, labels, region, route, &mut chooser.0);
         Refusal::or(answer.refusal, &mut route[..answer.length])
+    }
+
+    /// What is found of a drawn list of crossing numbers: accepted exactly if it is a shortest drive
+    /// from s to d, otherwise the first fault. `labels` holds the labels.
+    ///
+    /// # Errors
+    ///
+    /// Refuses 1, 2, 3 or 4, and then no byte changes; or 8, and then `labels` holds the labels.
+    ///
+    /// ```
+    /// use grainbodkin::{Fault, Finding, MarkersRef, Place, Reason};
+    ///
+    /// let list = MarkersRef { slots: &[], count: 0, width: 8, height: 8 };
+    /// let (s, d) = (Place::new(7, 0), Place::new(0, 1));
+    /// // Number 8 is one more than 7, but on the other side of the map.
+    /// let fault = Fault { position: 1, reason: Reason::NotANeighbour };
+    /// assert_eq!(list.check(s, d, &mut [0; 64], &[7, 8]), Ok(Finding::AtFault(fault)));
+    /// ```
+    pub fn check(
+        self,
+        s: Place,
+        d: Place,
+        labels: &mut [u8],
+        drawn: &[u16],
+    ) -> Result<Finding, Refusal> {
+        let answer = calls::check(self, s, d, labels, drawn);
+        Refusal::or(answer.refusal, Finding::new(answer.reason, answer.position))
     }
 
     /// Writes the list as a PBM map, P4, to the front of `out`, and hands back the number of bytes

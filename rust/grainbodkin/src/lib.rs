@@ -2,9 +2,10 @@
 //!
 //! It keeps a list of rock markers, labels the crossings of one rectangular map, gives clear
 //! distances, tells whether home is assured, gives the region of shortest drives, makes a drive,
-//! gives single hops homeward, reads PBM (plain P1 and raw P4) and writes P4. The work is done by
-//! the proved static library `liblayer.a`; this crate lends its eleven calls in Rust's manner, with
-//! nothing `unsafe` in its interface.
+//! checks a drive that was drawn by hand, gives single hops homeward, reads PBM (plain P1 and raw
+//! P4) and writes P4, and writes sheets of distances as raw PGM pictures and reads them back. The
+//! work is done by the proved static library `liblayer.a`; this crate lends its fourteen calls in
+//! Rust's manner, with nothing `unsafe` in its interface.
 //!
 //! A journey: read a map, label it, ask whether home is assured, hop home.
 //!
@@ -44,6 +45,7 @@
 mod askings;
 #[allow(unsafe_code)]
 mod calls;
+mod checks;
 mod distances;
 mod drives;
 mod hops;
@@ -52,16 +54,19 @@ mod lent;
 mod map;
 mod marker;
 mod markers;
+mod pictures;
 mod refusal;
 
 pub use grainbodkin_sys::STACK;
 
+pub use checks::{Fault, Finding, Reason};
 pub use distances::{Clear, Distances, NO_DISTANCE};
 pub use drives::{Chooser, Drive, Region};
 pub use hops::Hops;
 pub use labels::{Label, Labelling, Labels};
 pub use lent::{MarkersMut, MarkersRef};
-pub use map::{Map, Place, LONGEST_FILE, SIDE};
+pub use map::{Map, Place, LONGEST_FILE, LONGEST_PICTURE, SIDE};
 pub use marker::{Marker, MARKERS};
 pub use markers::Markers;
+pub use pictures::{read_sheet, write_sheet, LARGEST};
 pub use refusal::{NoRefusal, Refusal};

@@ -11,6 +11,10 @@ pub const SIDE: usize = 64;
 /// packed rows.
 pub const LONGEST_FILE: usize = file_len(SIDE, SIDE);
 
+/// The most bytes that a written picture has: "P5", LF, two digits, space, two digits, LF, "255",
+/// LF and a byte a crossing.
+pub const LONGEST_PICTURE: usize = picture_len(SIDE, SIDE);
+
 /// A crossing that is asked for or stands on a map: x rises to the east from 0, y rises to the
 /// north from 0.
 ///
@@ -154,11 +158,29 @@ impl Map {
     pub const fn file_len(self) -> usize {
         file_len(self.width, self.height)
     }
+
+    /// How many bytes [`write_sheet`](crate::write_sheet) writes of a sheet of this size.
+    ///
+    /// ```
+    /// use grainbodkin::Map;
+    ///
+    /// let map = Map::new(12, 3)?;
+    /// assert_eq!(map.picture_len(), "P5\n12 3\n255\n".len() + 3 * 12);
+    /// # Ok::<(), grainbodkin::Refusal>(())
+    /// ```
+    pub const fn picture_len(self) -> usize {
+        picture_len(self.width, self.height)
+    }
 }
 
 /// "P4", LF, width, space, height, LF and the rows, eight crossings to a byte.
 const fn file_len(width: usize, height: usize) -> usize {
     3 + digits(width) + 1 + digits(height) + 1 + height * width.div_ceil(8)
+}
+
+/// "P5", LF, width, space, height, LF, "255", LF and a byte a crossing.
+const fn picture_len(width: usize, height: usize) -> usize {
+    3 + digits(width) + 1 + digits(height) + 1 + 4 + height * width
 }
 
 const fn digits(side: usize) -> usize {

@@ -5,12 +5,13 @@ use std::fmt;
 
 use crate::{MARKERS, SIDE};
 
-/// Why a call is refused: seventeen cases, each with its number.
+/// Why a call is refused: eighteen cases, each with its number.
 ///
 /// A call gives the lowest number that applies. Reading a file goes 12, 13 in the header, 1, then
-/// the raster: at the first fault met 13, 14 or 15, then 7.
+/// the raster: at the first fault met 13, 14 or 15, then 7. Reading a picture goes 12, 13, 1, 18,
+/// 2, 14, 15.
 ///
-/// Refusals 1 to 7 and 12 to 17 change nothing that is lent. At 8, 9, 10 and 11 a lent label sheet
+/// Refusals 1 to 7 and 12 to 18 change nothing that is lent. At 8, 9, 10 and 11 a lent label sheet
 /// holds the labels; a lent region sheet is unchanged at 8, all 0 at 9 and the region at 10; a
 /// route and a chooser are unchanged.
 ///
@@ -48,7 +49,8 @@ pub enum Refusal {
     ShortRoute = 10,
     /// 11: hop asked, and home is not assured.
     NotAssured = 11,
-    /// 12: a file's first two bytes are neither P1 nor P4, or there are fewer than two.
+    /// 12: a file's first two bytes are neither P1 nor P4, of a picture not P5, or there are fewer
+    /// than two.
     BadLetters = 12,
     /// 13: the header is against the rules or cut short, or a P1 raster has a byte before the last
     /// digit that is neither digit 0, 1 nor blank.
@@ -61,11 +63,13 @@ pub enum Refusal {
     SharedCrossing = 16,
     /// 17: the output is too short for the whole file.
     ShortOutput = 17,
+    /// 18: a picture's largest value is other than 255.
+    BadLargest = 18,
 }
 
 impl Refusal {
     /// Every refusal, in the order of the numbers.
-    pub const ALL: [Refusal; 17] = [
+    pub const ALL: [Refusal; 18] = [
         Refusal::BadSize,
         Refusal::BadSheet,
         Refusal::BadList,
@@ -83,16 +87,17 @@ impl Refusal {
         Refusal::LongRaster,
         Refusal::SharedCrossing,
         Refusal::ShortOutput,
+        Refusal::BadLargest,
     ];
 
-    /// The refusal's number, 1 to 17.
+    /// The refusal's number, 1 to 18.
     pub const fn number(self) -> u8 {
         self as u8
     }
 
     /// The answer where the library's number is 0, else the refusal with that number.
     ///
-    /// The library gives no number over 17. One that did would not be this library: that is never
+    /// The library gives no number over 18. One that did would not be this library: that is never
     /// taken as success.
     pub(crate) fn or<T>(number: u8, answer: T) -> Result<T, Refusal> {
         match number {
@@ -121,7 +126,9 @@ impl fmt::Display for Refusal {
             Refusal::NoDrive => f.write_str("both ends are open, but there is no shortest drive"),
             Refusal::ShortRoute => f.write_str("the route buffer is shorter than distance + 1"),
             Refusal::NotAssured => f.write_str("home is not assured"),
-            Refusal::BadLetters => f.write_str("the file does not start with P1 or P4"),
+            Refusal::BadLetters => {
+                f.write_str("the file does not start with P1 or P4, or the picture with P5")
+            }
             Refusal::BadHeader => f.write_str(
                 "the header is against the rules or cut short, or a P1 raster has a byte before its last \
                  digit that is neither 0, 1 nor blank",
@@ -130,13 +137,14 @@ impl fmt::Display for Refusal {
             Refusal::LongRaster => f.write_str("there are bytes after the raster"),
             Refusal::SharedCrossing => f.write_str("two markers stand on one crossing"),
             Refusal::ShortOutput => f.write_str("the output is too short for the whole file"),
+            Refusal::BadLargest => f.write_str("the picture's largest value is other than 255"),
         }
     }
 }
 
 impl Error for Refusal {}
 
-/// A number that is no refusal's: 0, which is success, or a number over 17.
+/// A number that is no refusal's: 0, which is success, or a number over 18.
 #[derive(Clone, Copy, Debug, PartialEq, Eq, Hash)]
 pub struct NoRefusal(
     /// The number.
@@ -158,7 +166,7 @@ impl Error for NoRefusal {}
 ///
 /// assert_eq!(Refusal::try_from(9), Ok(Refusal::NoDrive));
 /// assert_eq!(Refusal::try_from(0), Err(NoRefusal(0)));
-/// assert_eq!(Refusal::try_from(18), Err(NoRefusal(18)));
+/// assert_eq!(Refusal::try_from(19), Err(NoRefusal(19)));
 /// ```
 impl TryFrom<u8> for Refusal {
     type Error = NoRefusal;

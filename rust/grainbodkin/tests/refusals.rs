@@ -25,7 +25,7 @@ fn numbers_and_back() {
         assert_eq!(u8::from(refusal), number);
         assert_eq!(Refusal::try_from(number), Ok(refusal));
     }
-    for number in (18..=255).chain([0]) {
+    for number in (19..=255).chain([0]) {
         assert_eq!(Refusal::try_from(number), Err(NoRefusal(number)));
     }
 }
@@ -46,7 +46,7 @@ fn messages_start_with_the_number_and_differ() {
     }
     let error: Box<dyn Error> = Refusal::NotAssured.into();
     assert_eq!(error.to_string(), "refused 11: home is not assured");
-    assert_eq!(NoRefusal(18).to_string(), "18 is no refusal's number");
+    assert_eq!(NoRefusal(19).to_string(), "19 is no refusal's number");
 }
 
 #[test]
@@ -226,6 +226,7 @@ fn every_number_is_reached() {
     reached.push(markers.write().unwrap_err());
     markers.clear(4).unwrap();
     reached.push(markers.lend().write(&mut [0; 14]).unwrap_err());
+    reached.push(grainbodkin::read_sheet(b"P5 1 1 9 .", &mut [0]).unwrap_err());
     assert_eq!(reached, Refusal::ALL);
 }
 

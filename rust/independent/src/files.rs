@@ -82,13 +82,14 @@ fn number(file: &[u8], at: usize) -> Option<(usize, usize)> {
     Some((value, at + digits.len()))
 }
 
-/// Width, height and where the raster starts, of a file that starts with its two letters.
-fn header(file: &[u8]) -> Option<(Map, usize)> {
-    let at = separator(file, 2)?;
-    let (width, at) = number(file, at)?;
-    let at = separator(file, at)?;
-    let (height, at) = number(file, at)?;
-    is_blank(*file.get(at)?).then_some((Map { width, height }, at + 1))
+/// So many numbers and where the raster starts, of a file that starts with its two letters.
+pub fn header<const N: usize>(file: &[u8]) -> Option<([usize; N], usize)> {
+    let mut numbers = [0; N];
+    let mut at = 2;
+    for value in &mut numbers {
+        (*value, at) = number(file, separator(file, at)?)?;
+    }
+    is_blank(*file.get(at)?).then_some((numbers, at + 1))
 }
 
 /// A plain raster as its digits in order, or the first fault met: a foreign byte before the last
@@ -139,7 +140,8 @@ pub fn picture(file: &[u8]) -> Result<Picture, u8> {
         Some(b"P4") => Raster::Raw,
         _ => return Err(12),
     };
-    let (map, at) = header(file).ok_or(13)?;
+    let ([width, height], at) = header(file).ok_or(13)?;
+    let map = Map { width, height };
     if map.bad_size() {
         return Err(1);
     }

@@ -1,4 +1,5 @@
-//! Document 01 written again in plain, safe Rust, from its text alone.
+//! Document 01, and the requests of document 02 that have landed, written again in plain, safe
+//! Rust, from their text alone.
 //!
 //! It is there to be compared with, so it is written to be read beside the document and not to be
 //! quick: sets of crossings, whole-map sweeps until nothing changes, looks along whole rows, counts
@@ -8,6 +9,7 @@
 #![forbid(unsafe_code)]
 
 pub mod asking;
+pub mod checks;
 pub mod distances;
 pub mod drives;
 pub mod files;
@@ -15,5 +17,6 @@ pub mod hops;
 pub mod labels;
 pub mod map;
 pub mod markers;
+pub mod pictures;
 pub mod refusals;
 pub mod text;

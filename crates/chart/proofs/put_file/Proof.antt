@@ -6,7 +6,7 @@ use lib.Seq.{length-take-le}
 use Rattle.field.specs.Map.{Sides}
 use Rattle.field.specs.Limits.{marker-slots, crossings-few, most-crossings-is}
 use Rattle.reader.specs.Promise.{MapTaken}
-use Rattle.chart.proofs.Reading.{reads-map, reads-refusal, refusal-text, taken-turn, map-text, text-few}
+use Rattle.chart.proofs.Reading.{reads-map, reads-refusal, refusal-text, taken-turn, taken-ones, map-text, text-few}
 use borrow.Author.Needs.{needs}
 use Rattle.chart.proofs.put_file.Statement.{statement}
 use Rattle.chart.proofs.put_file.Tie as tie
@@ -56,6 +56,7 @@ put-map-requires c κs =
     let g = c .before .before .before .before in
     record {
       turn = taken-turn (taken g) _ (length-take-le _ _ (crossings-few (sides g)));
+      ones = taken-ones (taken g);
       room = text-few (sides g) (start (answered g) .pre .room);
     }
 

@@ -7,6 +7,7 @@ use lib.ListN.{length}
 use Rattle.field.specs.Map.{side}
 use Rattle.chart.proofs.Putting.{part-put}
 use Rattle.chart.proofs.Showing.{map-put}
+use Rattle.chart.proofs.Turning.{turned-stamped, turned-draws}
 use borrow.Author.Needs.{needs}
 use Rattle.chart.proofs.put_map.Statement.{statement}
 use Rattle.chart.proofs.put_map.Tie as tie
@@ -28,7 +29,10 @@ turn-requires : tie.Need-turn-requires
 turn-requires c κs = search needs
 
 label-requires : tie.Need-label-requires
-label-requires c κs = search needs
+label-requires c κs =
+    let t = c .before .before .before in
+    let p = start t .pre in
+    turned-stamped (start t .args .bits .now) (p .turn .sides) (p .ones) (t .turn .ensures)
 
 put-line-requires : tie.Need-put-line-requires
 put-line-requires c κs = omega (arith, start (turned (c .before .before .before)) .pre .room)
@@ -71,7 +75,7 @@ returns c =
     let reach : line .result ≤ line-room = omega (arith, line .ensures .put .size, line .ensures .right .few) in
     let room : end ≤ length (line .last .0) = omega (arith, reach, start (turned l) .pre .room, line .kept .0) in
     let after : line .result ≤ end = omega arith in
-    map-put (l .label .ensures) (a .bits .now) (turned l .turn .ensures) (line .ensures) (rows .ensures)
+    map-put (l .label .ensures) (a .bits .now) (turned-draws (a .bits .now) (start (turned l) .pre .turn .sides) (start (turned l) .pre .ones) (turned l .turn .ensures)) (line .ensures) (rows .ensures)
     (part-put (line .last .0) (line .result) end (rows .last .0) after room (rows .kept .0))
 
 pub put-map-spec : {M : Type 1} → statement M

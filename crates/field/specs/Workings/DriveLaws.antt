@@ -1,16 +1,16 @@
 -- Laws of drives. A hop brings a cart at most one nearer, so a drive has at least as many hops as
 -- the distance; drives join, turn round and split; and a shortest drive joined, turned or split
 -- gives shortest drives.
-use mathlib.Core.Path.{_≡_, refl, sym, subst, subst₂, ap}
+use mathlib.Core.Path.{_≡_, refl, sym, subst, subst₂, ap, _∙_}
 use mathlib.Core.List.{List, [], _∷_, _++_, reverseAux, reverse}
 use mathlib.Core.Logic.{_↔_}
 use Prim.Native.Nat.{ℕ, zero, suc, _+_, _<_, _≤_}
 use native.Mathlib.Omega.{arith}
 use lib.ListN.{length, getD, take, drop, length-append, length-reverse}
-use Rattle.field.specs.Map.{number, Near, dist}
+use Rattle.field.specs.Map.{On, number, Near, dist}
 use Rattle.field.specs.Labels.{Open}
 use Rattle.field.specs.Drives.{Drive, last, next, HasDrive}
-use Rattle.field.specs.Workings.GridLaws.{dist-none, dist-turned, near-turned, hop-le}
+use Rattle.field.specs.Workings.GridLaws.{dist-none, dist-turned, near-turned, hop-le, number-one}
 
 module _ (w h : ℕ) (C : ℕ → ℕ → Type 0) where
   -- What is true of a crossing is true of it whatever its coordinates are called.
@@ -100,6 +100,15 @@ module _ (w h : ℕ) (C : ℕ → ℕ → Type 0) where
   drive-split (last p q o e) (suc i) b = absurd (omega (arith, ap length e))
   drive-split (next o n v e) zero b = split-here e (next o n v e)
   drive-split (next o n v e) (suc i) b = split-later i o n e (drive-split v i (omega (arith, ap length e)))
+
+  -- Every crossing of a drive is open.
+  pub drive-opens : {dx dy sx sy : ℕ} {l : List ℕ} → Drive w h C dx dy sx sy l → (i x y : ℕ) → i < length l → On w h x y → getD l i 0 ≡ number w x y
+      → Open w h C x y
+  drive-opens v i x y b o e =
+      let k = drive-split v i b in
+      let p = drive-open w h C (k .after) in
+      let s = number-one o (p .on) (sym (k .is-there) ∙ e) in
+      open-at w h C (s .0) (s .1) p
 
 -- How a shortest drive from (x, y) to (dx, dy) begins: it is there, or it hops to a neighbour one
 -- hop nearer, which has a shortest drive.

@@ -57,7 +57,7 @@ module _ (rocks : List Place) where
   unfolding rockSheet
   rocks-draw = stamp-draws wide high (markersOn rocks)
 
-  closed-draw : Draws wide high C c
+  pub closed-draw : Draws wide high C c
   unfolding closedSheet
   closed-draw = closing-draws wide high R r rocks-draw
 

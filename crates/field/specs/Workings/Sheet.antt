@@ -22,6 +22,10 @@ pub record Draws (w h : ℕ) (C : ℕ → ℕ → Type 0) (s : List ℕ) : Type 
   pub sound : (x y : ℕ) → Marked s w h x y → C x y
   pub complete : (x y : ℕ) → C x y → Marked s w h x y
 
+-- A sheet draws what it marks.
+pub marked-draws : (w h : ℕ) (s : List ℕ) → Draws w h (Marked s w h) s
+marked-draws w h s = record { sound = λ x y m. m; complete = λ x y m. m }
+
 -- 1 where the sheet has a mark at (x, y), on the map, and else 0.
 unfoldable pub lit : List ℕ → ℕ → ℕ → ℕ → ℕ → ℕ
 lit s w h x y = bit (ltb x w && (ltb y h && ltb 0 (at s w x y)))

@@ -8,16 +8,16 @@ use lib.Seq.{take-take, length-take-le}
 use Rattle.packing.specs.Packing.{pieces}
 use Rattle.packing.specs.PackingLaws.{piece-end, pieces-more}
 use Rattle.packing.proofs.Filling.{Filled, filled-as, filled-none, filled-length, filled-all, filled-lent, filled-part}
-use Rattle.turning.specs.Turning.{rowBits}
+use Rattle.turning.specs.Turning.{rasterRow}
 use Rattle.turning.specs.TurningLaws.{row-whole, rows-turned}
 use Rattle.turning.proofs.turn.Statement.{statement}
 use Rattle.turning.proofs.turn.Tie as tie
 
 abbrev Inv-loop : tie.InvT-loop
-Inv-loop bits w h sheet₀ y₀ sheet y = (y ≤ h) × Filled (pieces y (rowBits bits w h)) (y * w) sheet₀ sheet
+Inv-loop raster w h sheet₀ y₀ sheet y = (y ≤ h) × Filled (pieces y (rasterRow raster w h)) (y * w) sheet₀ sheet
 
 abbrev μ-loop : tie.MeasureT-loop
-μ-loop bits w h sheet₀ y₀ sheet y = h - y
+μ-loop raster w h sheet₀ y₀ sheet y = h - y
 
 -- Row y ends within the sheet.
 row-ends : (c : tie.In-loop Inv-loop μ-loop) →
@@ -32,7 +32,7 @@ row-ends c =
 row-lies : (c : tie.In-loop Inv-loop μ-loop) →
     let a = c .before .before .before .before .args in
     let y = c .before .loop .y in
-    ((a .h - (y + 1)) * a .w + a .w ≤ length (a .bits .now)) × (y * a .w + a .w ≤ length (a .bits .now))
+    ((a .h - (y + 1)) * a .w + a .w ≤ length (a .raster .now)) × (y * a .w + a .w ≤ length (a .raster .now))
 row-lies c =
     let p = c .before .before .before .before .pre in
     let y = c .before .loop .y in
@@ -79,7 +79,7 @@ part-turn-row-end-2 c =
     let l = c .before .before .loop in
     omega (arith, row-ends (c .before), filled-length _ _ _ (l .sheet) (l .inv .1))
 
--- A row stands whole in what is left of the bits from its first on.
+-- A row stands whole in what is left of the raster from its first on.
 rest-long : (l : List ℕ) (from w : ℕ) → from + w ≤ length l → w ≤ length (take (length l - from) (drop from l))
 rest-long l from w h = omega (arith, length-drop from l, length-take-le (length l - from) (drop from l) (omega (arith, length-drop from l)))
 
@@ -89,7 +89,7 @@ turn-row-requires c κs =
     let l = c .before .before .before .loop in
     let lies = row-lies (c .before .before) in
     record {
-      whole = omega (arith, rest-long (a .bits .now) _ (a .w) (lies .0), rest-long (a .bits .now) _ (a .w) (lies .1));
+      whole = omega (arith, rest-long (a .raster .now) _ (a .w) (lies .0), rest-long (a .raster .now) _ (a .w) (lies .1));
       room = filled-lent _ (l .y * a .w) (a .sheet .now) (l .sheet) (l .inv .1) (l .y * a .w + a .w) (row-ends (c .before .before)) ∙ omega arith;
     }
 
@@ -100,13 +100,13 @@ loop-less : tie.Need-loop-less Inv-loop μ-loop
 loop-less c = omega arith
 
 -- One row more.
-next : (bits : List ℕ) (w h y : ℕ) (part : List ℕ) → (h - (y + 1)) * w + w ≤ length bits
-    → part ≡ take w (take (length bits - (h - (y + 1)) * w) (drop ((h - (y + 1)) * w) bits))
-    → pieces y (rowBits bits w h) ++ part ≡ pieces (y + 1) (rowBits bits w h)
-unfolding rowBits
-next bits w h y part l e =
+next : (raster : List ℕ) (w h y : ℕ) (part : List ℕ) → (h - (y + 1)) * w + w ≤ length raster
+    → part ≡ take w (take (length raster - (h - (y + 1)) * w) (drop ((h - (y + 1)) * w) raster))
+    → pieces y (rasterRow raster w h) ++ part ≡ pieces (y + 1) (rasterRow raster w h)
+unfolding rasterRow
+next raster w h y part l e =
     let from = (h - (y + 1)) * w in
-    rw (e, take-take w (length bits - from) (drop from bits) (omega arith)) (sym (pieces-more y (rowBits bits w h)))
+    rw (e, take-take w (length raster - from) (drop from raster) (omega arith)) (sym (pieces-more y (rasterRow raster w h)))
 
 -- Where row y ends, the next begins.
 next-start : (y w : ℕ) → y * w + w ≡ (y + 1) * w
@@ -119,12 +119,12 @@ loop-again c =
     let l = i .before .loop in
     let row = c .before .before .turn-row in
     let part = row .last .1 .1 .0 in
-    let bits = a .bits .now in
+    let raster = a .raster .now in
     let end = l .y * a .w + a .w in
     let put =
-    filled-part (pieces (l .y) (rowBits bits (a .w) (a .h))) (l .y * a .w) (a .sheet .now) (l .sheet) (l .inv .1) end part (omega arith) (row-ends i)
+    filled-part (pieces (l .y) (rasterRow raster (a .w) (a .h))) (l .y * a .w) (a .sheet .now) (l .sheet) (l .inv .1) end part (omega arith) (row-ends i)
     (row .kept .1 .1 .0) in
-    (omega arith, filled-as _ _ end ((l .y + 1) * a .w) (a .sheet .now) _ put (next bits (a .w) (a .h) (l .y) part (row-lies i .0) (row .ensures)) (next-start (l .y) (a .w)))
+    (omega arith, filled-as _ _ end ((l .y + 1) * a .w) (a .sheet .now) _ put (next raster (a .w) (a .h) (l .y) part (row-lies i .0) (row .ensures)) (next-start (l .y) (a .w)))
 
 same-length : tie.Need-same-length Inv-loop μ-loop
 same-length c =
@@ -138,7 +138,7 @@ returns c =
     let l = c .before .loop in
     let all : l .y ≡ a .h = omega (arith, l .inv .0) in
     let full : l .y * a .w ≡ length (a .sheet .now) = ap (λ (y : ℕ). y * a .w) all ∙ sym (p .size) in
-    let rows = filled-all _ (l .y * a .w) (a .sheet .now) (l .sheet) (l .inv .1) full ∙ ap (λ (n : ℕ). pieces n (rowBits (a .bits .now) (a .w) (a .h))) all in
+    let rows = filled-all _ (l .y * a .w) (a .sheet .now) (l .sheet) (l .inv .1) full ∙ ap (λ (n : ℕ). pieces n (rasterRow (a .raster .now) (a .w) (a .h))) all in
     rw rows (rows-turned p)
 
 pub turn-spec : {M : Type 1} → statement M

@@ -1,4 +1,4 @@
--- `turn_row` meets its contract: after x turns the first x bits stand at the front of the part.
+-- `turn_row` meets its contract: after x turns the first x raster stand at the front of the part.
 use Prim.Native.Nat.{ℕ, _-_, _≤_}
 use native.Mathlib.Omega.{arith}
 use mathlib.Core.Path.{_≡_, refl, ap, _∙_}
@@ -8,10 +8,10 @@ use Rattle.turning.proofs.turn_row.Statement.{statement}
 use Rattle.turning.proofs.turn_row.Tie as tie
 
 abbrev Inv-loop : tie.InvT-loop
-Inv-loop bits w part₀ x₀ part x = (x ≤ w) × Filled (take x bits) x part₀ part
+Inv-loop raster w part₀ x₀ part x = (x ≤ w) × Filled (take x raster) x part₀ part
 
 abbrev μ-loop : tie.MeasureT-loop
-μ-loop bits w part₀ x₀ part x = w - x
+μ-loop raster w part₀ x₀ part x = w - x
 
 loop-holds : tie.Need-loop-holds Inv-loop μ-loop
 loop-holds c = (omega arith, filled-none _)
@@ -35,8 +35,8 @@ loop-again c =
     let a = c .before .before .before .args in
     let p = c .before .before .before .pre in
     let l = c .before .before .loop in
-    let put = filled-byte (take (l .x) (a .bits .now)) (l .x) (a .part .now) (l .part) (l .inv .1) (getD (a .bits .now) (l .x) 0) (omega (arith, p .room)) in
-    (omega arith, filled-as _ _ _ _ (a .part .now) _ put (take-more (a .bits .now) (l .x) (omega (arith, p .whole))) refl)
+    let put = filled-byte (take (l .x) (a .raster .now)) (l .x) (a .part .now) (l .part) (l .inv .1) (getD (a .raster .now) (l .x) 0) (omega (arith, p .room)) in
+    (omega arith, filled-as _ _ _ _ (a .part .now) _ put (take-more (a .raster .now) (l .x) (omega (arith, p .whole))) refl)
 
 same-length : tie.Need-same-length Inv-loop μ-loop
 same-length c =
@@ -48,7 +48,7 @@ returns c =
     let a = c .before .before .args in
     let l = c .before .loop in
     let all : l .x ≡ a .w = omega (arith, l .inv .0) in
-    filled-all _ (l .x) (a .part .now) (l .part) (l .inv .1) (omega (arith, c .before .before .pre .room)) ∙ ap (λ (n : ℕ). take n (a .bits .now)) all
+    filled-all _ (l .x) (a .part .now) (l .part) (l .inv .1) (omega (arith, c .before .before .pre .room)) ∙ ap (λ (n : ℕ). take n (a .raster .now)) all
 
 pub turn-row-spec : {M : Type 1} → statement M
 turn-row-spec =

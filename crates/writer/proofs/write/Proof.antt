@@ -100,14 +100,14 @@ header-filled out header n h kept = filled-part [] 0 out out (filled-none out) n
 write-rows-requires : tie.Need-write-rows-requires
 unfolding rowBytes
 write-rows-requires c κs =
-    let a = c .before .before .before .before .before .before .before .before .before .before .args in
-    let start = c .before .before .before .before .before .before .before .digit-count .result + c .before .before .before .before .before .before .digit-count2 .result + 5 in
+    let a = c .before .before .before .before .before .before .before .before .before .before .before .args in
+    let start = c .before .before .before .before .before .before .before .before .digit-count .result + c .before .before .before .before .before .before .before .digit-count2 .result + 5 in
     let end = start + a .h * ((a .w + 7) / 8) in
     let header = c .before .before .before .write-header in
     let room : end ≤ length (a .out .now) = omega arith in
     let filled = header-filled (a .out .now) (header .last .0) start (omega arith) (header .kept .0) in
     record {
-      asked = c .before .before .before .before .before .before .before .before .before .before .pre;
+      asked = c .before .before .before .before .before .before .before .before .before .before .before .pre;
       room = filled-lent (header .last .0) start (a .out .now) _ filled end room ∙ omega arith;
     }
 
@@ -117,9 +117,9 @@ same-length c = search needs
 returns-2 : tie.Need-returns-2
 unfolding rowBytes fileOf
 returns-2 c =
-    let a = c .before .before .before .before .before .before .before .before .before .before .before .before .before .args in
-    let width = c .before .before .before .before .before .before .before .before .before .before .digit-count in
-    let height = c .before .before .before .before .before .before .before .before .before .digit-count2 in
+    let a = c .before .before .before .before .before .before .before .before .before .before .before .before .before .before .args in
+    let width = c .before .before .before .before .before .before .before .before .before .before .before .digit-count in
+    let height = c .before .before .before .before .before .before .before .before .before .before .digit-count2 in
     let header = c .before .before .before .before .before .before .write-header in
     let rows = c .before .before .write-rows in
     let start = width .result + height .result + 5 in
@@ -129,7 +129,7 @@ returns-2 c =
     let both = filled-part (header .last .0) start (a .out .now) _ first end (rows .last .0) (omega arith) room (rows .kept .0) in
     record {
       file = fileOf (a .s .now) (a .w) (width .result) (a .h) (height .result);
-      written = file-written (a .s .now) (a .w) (width .result) (a .h) (height .result) (c .before .before .before .before .before .before .before .before .before .before .before .before .before .pre .sides) (width .ensures) (height .ensures);
+      written = file-written (a .s .now) (a .w) (width .result) (a .h) (height .result) (c .before .before .before .before .before .before .before .before .before .before .before .before .before .before .pre .sides) (width .ensures) (height .ensures);
       counted = sym (file-length (a .s .now) (a .w) (width .result) (a .h) (height .result));
       fits = room;
       is = both .is ∙ rw (header .ensures, rows .ensures);

@@ -6,8 +6,7 @@ use mathlib.Core.Path.{_≡_, ap, _∙_}
 use mathlib.Core.List.{List, [], _∷_, _++_, append-assoc}
 use lib.ListN.{length, set, length-set}
 use borrow.Rule.Slice.PartMut.{midOf, putMid}
-use Rattle.mapfile.specs.File.{raw-letters}
-use Rattle.writer.specs.Digits.{digitsOf, headerOf}
+use Rattle.writer.specs.Digits.{digitsOf, twoOf, headerOf}
 use Rattle.packing.proofs.Filling.{Filled, filled-none, filled-length, filled-all, filled-byte, filled-lent, filled-part}
 use borrow.Author.Needs.{needs}
 use Rattle.writer.proofs.write_header.Statement.{statement}
@@ -57,11 +56,10 @@ module _ (xs l p : List ℕ) (a b : ℕ) (size : length xs ≡ a + b + 5)
       filled-all (l ++ p ++ 32 ∷ [] ++ q ++ 10 ∷ []) (3 + a + 1 + b + 1) xs (set (heighted xs l p q a b) (3 + a + 1 + b) 10) f (omega arith)
 
 -- The pieces are the header's.
-pieces-header : (w a h b : ℕ) (l p q : List ℕ) → l ≡ raw-letters ++ 10 ∷ [] → p ≡ digitsOf a w → q ≡ digitsOf b h
-    → l ++ p ++ 32 ∷ [] ++ q ++ 10 ∷ [] ≡ headerOf w a h b
+pieces-header : (letters : List ℕ) (w a h b : ℕ) (l p q : List ℕ) → l ≡ letters ++ 10 ∷ [] → p ≡ digitsOf a w → q ≡ digitsOf b h
+    → l ++ p ++ 32 ∷ [] ++ q ++ 10 ∷ [] ≡ headerOf letters w a h b
 unfolding headerOf
-pieces-header w a h b l p q d e f =
-    rw (d, e, f) (ap (λ (k : List ℕ). k ++ 10 ∷ []) (append-assoc (raw-letters ++ 10 ∷ digitsOf a w) (32 ∷ []) (digitsOf b h)))
+pieces-header letters w a h b l p q d e f = rw (d, e, f) (simp append-assoc)
 
 add-space : tie.Need-add-space
 add-space c = search needs
@@ -152,7 +150,7 @@ returns c =
     let width = width-lent (a .out .now) (l .last .0) (p .last .0) (a .a) (a .b) (start c .pre) (l .kept .0) (p .kept .0) in
     let height = height-lent (a .out .now) (l .last .0) (p .last .0) (a .a) (a .b) (start c .pre) (l .kept .0) (p .kept .0) in
     filled-end (a .out .now) (l .last .0) (p .last .0) (a .a) (a .b) (start c .pre) (l .kept .0) (p .kept .0) (q .last .0) (q .kept .0)
-    ∙ pieces-header (a .w) (a .a) (a .h) (a .b) (l .last .0) (p .last .0) (q .last .0)
+    ∙ pieces-header (twoOf (a .letters .now)) (a .w) (a .a) (a .h) (a .b) (l .last .0) (p .last .0) (q .last .0)
     (l .ensures) (p .ensures ∙ ap (λ (n : ℕ). digitsOf n (a .w)) width) (q .ensures ∙ ap (λ (n : ℕ). digitsOf n (a .h)) height)
 
 pub write-header-spec : {M : Type 1} → statement M

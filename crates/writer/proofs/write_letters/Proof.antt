@@ -3,7 +3,7 @@ use Prim.Native.Nat.{ℕ}
 use native.Mathlib.Omega.{arith}
 use mathlib.Core.Path.{_≡_, sym}
 use mathlib.Core.List.{List, [], _∷_}
-use lib.ListN.{length, set}
+use lib.ListN.{length, getD, set}
 use Rattle.packing.proofs.Filling.{filled-none, filled-all, filled-byte}
 use borrow.Author.Needs.{needs}
 use Rattle.writer.proofs.write_letters.Statement.{statement}
@@ -37,8 +37,8 @@ same-length c = search needs
 
 returns : tie.Need-returns
 returns c =
-    let out = c .before .before .before .args .out .now in
-    letters-put out 80 52 10 (c .before .before .before .pre)
+    let a = c .before .before .args in
+    letters-put (a .out .now) (getD (a .letters .now) 0 0) (getD (a .letters .now) 1 0) 10 (c .before .before .pre)
 
 pub write-letters-spec : {M : Type 1} → statement M
 write-letters-spec =

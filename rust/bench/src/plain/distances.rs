@@ -76,3 +76,17 @@ fn across<'a>(rows: impl Iterator<Item = (&'a [u8], &'a mut [u8])>) {
         before = Some(out);
     }
 }
+
+/// The distances of the whole map by looking along its row and its column from each crossing.
+pub fn look_from_each(
+    s: &[u8],
+    w: usize,
+    east: &mut [u8],
+    south: &mut [u8],
+    west: &mut [u8],
+    north: &mut [u8],
+) {
+    for i in 0..s.len() {
+        [east[i], south[i], west[i], north[i]] = four(s, w, i % w, i / w);
+    }
+}

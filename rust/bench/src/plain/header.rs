@@ -1,4 +1,4 @@
-//! A map file's header: a separator, the width, a separator, the height, exactly one blank byte.
+//! A file's header: a separator and a number, so many times, and exactly one blank byte.
 
 /// The most digits of a number.
 const MOST_DIGITS: usize = 9;
@@ -40,12 +40,13 @@ fn number(bytes: &[u8]) -> Option<(usize, &[u8])> {
     (digits > 0).then(|| (value, &bytes[digits..]))
 }
 
-/// Width, height and the raster, of what follows the letters.
-pub fn header(bytes: &[u8]) -> Option<(usize, usize, &[u8])> {
-    let (width, bytes) = number(separator(bytes)?)?;
-    let (height, bytes) = number(separator(bytes)?)?;
+/// As many numbers as there is room for, and the raster, of what follows the letters.
+pub fn header<'a>(mut bytes: &'a [u8], numbers: &mut [usize]) -> Option<&'a [u8]> {
+    for value in numbers {
+        (*value, bytes) = number(separator(bytes)?)?;
+    }
     match bytes {
-        [b, raster @ ..] if is_blank(*b) => Some((width, height, raster)),
+        [b, raster @ ..] if is_blank(*b) => Some(raster),
         _ => None,
     }
 }

@@ -36,6 +36,10 @@ pub const SHORT_RASTER: u8 = 14;
 pub const LONG_RASTER: u8 = 15;
 pub const SHARED_CROSSING: u8 = 16;
 pub const SHORT_OUTPUT: u8 = 17;
+pub const BAD_LARGEST: u8 = 18;
+
+/// The largest value of a picture.
+pub const LARGEST: usize = 255;
 
 /// A crossing, or a place asked.
 pub type Place = (usize, usize);

@@ -1,7 +1,9 @@
-//! The eleven calls in plain safe Rust, by the library's methods: what the library is measured against. Same interface, same refusals in the same
-//! order, same lent memory. No `unsafe`, nothing left out and nothing added to slow it down.
+//! The fourteen calls in plain safe Rust, by the library's methods: what the library is measured
+//! against. Same interface, same refusals in the same order, same lent memory. No `unsafe`, nothing
+//! left out and nothing added to slow it down.
 #![forbid(unsafe_code)]
 
+mod checks;
 mod distances;
 mod drives;
 mod header;
@@ -9,6 +11,7 @@ mod hops;
 mod judging;
 mod labelling;
 mod limits;
+mod pictures;
 mod raster;
 mod reader;
 mod records;
@@ -18,7 +21,8 @@ mod writer;
 
 use crate::layer::{Layer, Listing};
 use grainbodkin_sys::{
-    Assurance, Counted, Drove, Four, Homeward, Labelling, Marker, ReadMap, WroteMap,
+    Assurance, Checked, Counted, Drove, Four, Homeward, Labelling, Marker, ReadMap, SheetRead,
+    SheetWritten, WroteMap,
 };
 use judging::{fits, prepare};
 use limits::*;
@@ -227,6 +231,27 @@ impl Layer for Plain {
     }
 
     #[inline(never)]
+    fn check(
+        list: &[Marker],
+        count: usize,
+        w: usize,
+        h: usize,
+        sx: usize,
+        sy: usize,
+        dx: usize,
+        dy: usize,
+        labels: &mut [u8],
+        drawn: &[u16],
+    ) -> Checked {
+        let markers = match prepare(list, count, w, h, (sx, sy), (dx, dy), true, labels) {
+            Ok(markers) => markers,
+            Err(refusal) => return checks::refused(refusal),
+        };
+        labelling::label(markers, w, h, labels);
+        checks::check(labels, w, (sx, sy), (dx, dy), drawn)
+    }
+
+    #[inline(never)]
     fn read(file: &[u8], list: &mut [Marker]) -> ReadMap {
         match reader::read(file, list) {
             Err(refusal) => ReadMap {
@@ -251,6 +276,33 @@ impl Layer for Plain {
             Ok(bytes) => WroteMap {
                 refusal: SUCCESS,
                 bytes,
+            },
+        }
+    }
+
+    #[inline(never)]
+    fn write_sheet(sheet: &[u8], w: usize, h: usize, out: &mut [u8]) -> SheetWritten {
+        match pictures::write(sheet, w, h, out) {
+            Err(refusal) => SheetWritten { refusal, bytes: 0 },
+            Ok(bytes) => SheetWritten {
+                refusal: SUCCESS,
+                bytes,
+            },
+        }
+    }
+
+    #[inline(never)]
+    fn read_sheet(file: &[u8], sheet: &mut [u8]) -> SheetRead {
+        match pictures::read(file, sheet) {
+            Err(refusal) => SheetRead {
+                refusal,
+                width: 0,
+                height: 0,
+            },
+            Ok((width, height)) => SheetRead {
+                refusal: SUCCESS,
+                width,
+                height,
             },
         }
     }
@@ -317,5 +369,35 @@ impl Stack {
                 stack::label(labels, w, h)
             }
         }
+    }
+}
+
+/// Measuring by looking along row and column again from each crossing. Not the library's method; it shows what the running numbers save.
+pub struct Looking;
+
+impl Looking {
+    #[inline(never)]
+    pub fn measure(
+        list: &[Marker],
+        count: usize,
+        w: usize,
+        h: usize,
+        labels: &mut [u8],
+        east: &mut [u8],
+        south: &mut [u8],
+        west: &mut [u8],
+        north: &mut [u8],
+    ) -> u8 {
+        let lengths = [east.len(), south.len(), west.len(), north.len()];
+        let others = lengths.iter().all(|&n| fits(w, h, n));
+        let markers = match prepare(list, count, w, h, (0, 0), (0, 0), others, labels) {
+            Ok(markers) => markers,
+            Err(refusal) => {
+                return refusal;
+            }
+        };
+        labelling::label(markers, w, h, labels);
+        distances::look_from_each(labels, w, east, south, west, north);
+        SUCCESS
     }
 }

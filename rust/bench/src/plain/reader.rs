@@ -12,7 +12,9 @@ pub fn read(file: &[u8], list: &mut [Marker]) -> Result<(usize, usize, usize), u
         [b'P', b'4', bytes @ ..] => (false, bytes),
         _ => return Err(BAD_LETTERS),
     };
-    let (w, h, body) = header(bytes).ok_or(BAD_HEADER)?;
+    let mut sides = [0; 2];
+    let body = header(bytes, &mut sides).ok_or(BAD_HEADER)?;
+    let [w, h] = sides;
     if !sized(w, h) {
         return Err(BAD_SIZE);
     }

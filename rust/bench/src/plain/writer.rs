@@ -39,7 +39,7 @@ fn write(sheet: &[u8], w: usize, h: usize, out: &mut [u8]) -> Option<usize> {
 }
 
 /// How many decimal digits a width or height has.
-fn digit_count(v: usize) -> usize {
+pub fn digit_count(v: usize) -> usize {
     if v < 10 {
         1
     } else {
@@ -48,7 +48,7 @@ fn digit_count(v: usize) -> usize {
 }
 
 /// Fills the slice with a number's digits, from its end.
-fn write_number(out: &mut [u8], mut v: usize) {
+pub fn write_number(out: &mut [u8], mut v: usize) {
     for digit in out.iter_mut().rev() {
         *digit = b'0' + (v % 10) as u8;
         v /= 10;

@@ -1,0 +1,2 @@
+-- What the parts of writing and reading a picture promise.
+pub mod Parts
