@@ -9,4 +9,7 @@ pub mod Apart
 pub mod Groups
 pub mod HomeLines
 pub mod WayHome
+pub mod HomeDrives
+pub mod Meeting
+pub mod LinesLaws
 pub mod Theorems

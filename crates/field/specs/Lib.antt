@@ -14,6 +14,7 @@ pub mod Hops
 pub mod Drives
 pub mod Chooser
 pub mod Checks
+pub mod CrossingLines
 pub mod Limits
 pub mod Workings
 pub mod Geometry

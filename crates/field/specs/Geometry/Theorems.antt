@@ -10,6 +10,8 @@ use Rattle.field.specs.Labels.{Closed, closed-stable, closed-on-map, sma
 use Rattle.field.specs.Groups.{Linked, Lowest, Groups, GroupsApart}
 use Rattle.field.specs.Distances.{Assured}
 use Rattle.field.specs.Hops.{Permitted, There, Taken}
+use Rattle.field.specs.Drives.{ShortestDrive, HasDrive}
+use Rattle.field.specs.CrossingLines.{OpenColumn, OpenRow, Lines, HasLines, DrivenBy}
 use Rattle.field.specs.Geometry.Shapes.{Filled, Rectangle, rectanglesApart, Corner, Stage}
 use Rattle.field.specs.Geometry.Links
 use Rattle.field.specs.Geometry.Rectangles
@@ -17,6 +19,9 @@ use Rattle.field.specs.Geometry.Apart
 use Rattle.field.specs.Workings.Counting.{count-one}
 use Rattle.field.specs.Geometry.Groups
 use Rattle.field.specs.Geometry.WayHome
+use Rattle.field.specs.Geometry.HomeDrives
+use Rattle.field.specs.Geometry.Meeting
+use Rattle.field.specs.Geometry.LinesLaws
 
 -- R tells the rocks, and of each crossing it can be told whether it is closed.
 module _ (R : ℕ → ℕ → Type 0) (w h : ℕ) (dec : (x y : ℕ) → Dec (Closed R w h x y)) where
@@ -115,6 +120,39 @@ module _ (R : ℕ → ℕ → Type 0) (w h : ℕ) (dec : (x y : ℕ) → Dec (Cl
 
     pub there-ends : {x y a b : ℕ} → There hx hy x y → ¬ Permitted w h C hx hy x y a b
     there-ends = WayHome.there-ends
+
+-- Shortest drives that are sure: home's, where it is assured, and those of crossing lines (Req 06).
+module _ (R : ℕ → ℕ → Type 0) (w h : ℕ) (sides : Sides w h) (dec : (x y : ℕ) → Dec (Closed R w h x y)) where
+  abbrev D : ℕ → ℕ → Type 0
+  D = Closed R w h
+
+  -- An assured place has a shortest drive home.
+  pub assured-drive : {hx hy x y : ℕ} → Assured w h D hx hy x y → HasDrive w h D x y hx hy
+  assured-drive = HomeDrives.assured-drive w h sides D (closed-on-map R w h) (closed-stable R w h) dec
+
+  -- "Show that a yes always has a shortest drive": for any two open places, whichever way d lies
+  -- from s.
+  pub lines-drive : (sx sy dx dy : ℕ) → Open w h D sx sy → Open w h D dx dy → HasLines w h D sx sy dx dy → HasDrive w h D sx sy dx dy
+  lines-drive = Meeting.lines-drive w h sides D (closed-on-map R w h) (closed-stable R w h) dec
+
+  -- Why: the crossing where column and row meet is assured, as a home, for both places.
+  pub meeting-assured : (sx sy dx dy x y : ℕ) → OpenColumn w h D sx sy dx dy x → OpenRow w h D sx sy dx dy y → Open w h D sx sy → Assured w h D x y sx sy
+  meeting-assured = Meeting.meeting-assured w h sides D (closed-on-map R w h) (closed-stable R w h) dec
+
+  pub meeting-assured-end : (sx sy dx dy x y : ℕ) → OpenColumn w h D sx sy dx dy x → OpenRow w h D sx sy dx dy y → Open w h D dx dy → Assured w h D x y dx dy
+  meeting-assured-end = Meeting.meeting-assured-end w h sides D (closed-on-map R w h) (closed-stable R w h) dec
+
+  -- The drive by way of that crossing is a shortest drive from s to d.
+  pub driven-by-shortest : (sx sy dx dy x y : ℕ) {z z′ : ℕ} {l : List ℕ} → OpenColumn w h D sx sy dx dy x → OpenRow w h D sx sy dx dy y
+      → Open w h D sx sy → Open w h D dx dy → DrivenBy w h D sx sy dx dy x y z l z′ → ShortestDrive w h D sx sy dx dy l
+  driven-by-shortest = Meeting.driven-by-shortest w h sides D (closed-on-map R w h) (closed-stable R w h) dec
+
+  -- Where the test says yes there are a westmost column and a southmost row, and no two.
+  pub lines-some : (sx sy dx dy : ℕ) → HasLines w h D sx sy dx dy → (c : ℕ) × (r : ℕ) × Lines w h D sx sy dx dy c r
+  lines-some = LinesLaws.lines-some w h D dec
+
+  pub lines-one : {sx sy dx dy c r c′ r′ : ℕ} → Lines w h D sx sy dx dy c r → Lines w h D sx sy dx dy c′ r′ → (c ≡ c′) × (r ≡ r′)
+  lines-one = LinesLaws.lines-one
 
 -- What the smallest set excludes: on a map without rocks, to close anything.
 module _ (R : ℕ → ℕ → Type 0) (w h : ℕ) (no-rocks : (x y : ℕ) → On w h x y → ¬ R x y) where
