@@ -21,13 +21,13 @@ abbrev pub not-read : ℕ → SheetRead
 not-read n = record { refusal = n; width = 0; height = 0 }
 
 -- 17: "output too short for the whole file"
-pub record PictureTooLong (w h : ℕ) (sheet out : List ℕ) : Type 0 where
+pub record TooShortForPicture (w h : ℕ) (sheet out : List ℕ) : Type 0 where
   pub file : List ℕ
   pub written : PictureWritten w h sheet file
   pub short : length out < length file
 
 abbrev pub picture-rule : List ℕ → ℕ → ℕ → List ℕ → Rule
-picture-rule sheet w h out = rule short-output (PictureTooLong w h sheet out)
+picture-rule sheet w h out = rule short-output (TooShortForPicture w h sheet out)
 
 -- The rows that writing a sheet can meet: 1, 2 and 17.
 abbrev pub write-sheet-table : List ℕ → ℕ → ℕ → List ℕ → List Rule

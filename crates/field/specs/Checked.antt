@@ -1,19 +1,17 @@
 -- What is proved of the check of a drawn list (request 01), for any set C of closed crossings.
-use mathlib.Core.Path.{_≡_, refl, sym, ap, _∙_, subst}
+use mathlib.Core.Path.{_≡_, sym, _∙_, subst}
 use mathlib.Core.List.{List}
 use mathlib.Core.Logic.{_↔_}
-use Prim.Native.Nat.{ℕ, _<_}
+use Prim.Native.Nat.{ℕ}
 use native.Mathlib.Omega.{arith}
 use Rattle.field.specs.declared.Finding.{Finding}
 use Rattle.field.specs.Map.{On, OnMap}
 use Rattle.field.specs.Rule.{Gives, gives-one}
 use Rattle.field.specs.Reasons.{no-fault}
-use Rattle.field.specs.Labels.{one}
 use Rattle.field.specs.Drives.{ShortestDrive, HasDrive, InRegion}
 use Rattle.field.specs.Chooser.{Driven}
-use Rattle.field.specs.Checks.{reasons, Has, Sound, AtFault, Accepted, Finds, accepted, at-fault}
-use Rattle.field.specs.Workings.Sheet.{Draws, sheet}
-use Rattle.field.specs.Workings.Marks.{sheet-draws}
+use Rattle.field.specs.Checks.{reasons, Has, AtFault, Accepted, Finds, accepted, at-fault}
+use Rattle.field.specs.Workings.Marks.{decided, decided-draws}
 use Rattle.field.specs.Workings.GridLaws.{Order, less, same, more, order}
 use Rattle.field.specs.Workings.ChooserLaws.{driven-shortest}
 use Rattle.field.specs.Workings.Checking.{checkOf}
@@ -65,13 +63,5 @@ module _ (w h : ℕ) (C : ℕ → ℕ → Type 0) (sx sy dx dy : ℕ) (l : List 
 pub finds-some : {w h : ℕ} {C : ℕ → ℕ → Type 0} → OnMap w h C → ((x y : ℕ) → Dec (C x y)) → (sx sy dx dy : ℕ) → On w h sx sy → (l : List ℕ)
     → (f : Finding) × Finds w h C sx sy dx dy l f
 finds-some {w} {h} {C} m d sx sy dx dy o l =
-    let s = sheet w h (λ x y. one (d x y)) in
-    (checkOf s w h sx sy dx dy l, checked w h C sx sy dx dy l s draws o)
-  where
-    marks : (x y : ℕ) → (k : Dec (C x y)) → (0 < one k → C x y) × (C x y → 0 < one k)
-    marks x y (yes c) = ((λ b. c), λ b. omega arith)
-    marks x y (no f) = ((λ b. absurd (omega arith)), λ c. absurd (f c))
-
-    draws : Draws w h C (sheet w h (λ x y. one (d x y)))
-    draws =
-        sheet-draws w h C (λ x y. one (d x y)) (λ x y i b. marks x y (d x y) .0 b) (λ x y c. (m x y c, marks x y (d x y) .1 c))
+    let s = decided w h d in
+    (checkOf s w h sx sy dx dy l, checked w h C sx sy dx dy l s (decided-draws w h C m d) o)

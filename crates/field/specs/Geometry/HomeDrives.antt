@@ -4,7 +4,7 @@ use mathlib.Core.Path.{_≡_, refl, sym}
 use mathlib.Core.List.{List, [], _∷_, _++_}
 use Prim.Native.Nat.{ℕ, _+_}
 use native.Mathlib.Omega.{arith}
-use lib.ListN.{length, drop}
+use lib.ListN.{length}
 use Rattle.field.specs.Map.{Sides, OnMap, number, dist}
 use Rattle.field.specs.Labels.{Stable, Open}
 use Rattle.field.specs.Distances.{Assured}

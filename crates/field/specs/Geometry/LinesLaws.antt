@@ -1,15 +1,16 @@
 -- The crossing lines are fixed by the map: there is one westmost open column and one southmost open
 -- row, and where there are such lines at all, they can be found by going through the rectangle.
-use mathlib.Core.Path.{_≡_, refl, sym, subst, _∙_}
-use mathlib.Core.List.{List, [], _∷_, _++_}
-use mathlib.Core.Logic.{_↔_}
+use mathlib.Core.Path.{_≡_, sym, subst, _∙_}
+use mathlib.Core.List.{List, _∷_}
 use Prim.Native.Nat.{ℕ, zero, suc, _+_, _<_, _≤_, min, max}
 use native.Mathlib.Omega.{arith}
 use native.Mathlib.Decide.{decLe}
-use Rattle.field.specs.Map.{On, number}
+use Rattle.field.specs.Map.{OnMap, number}
 use Rattle.field.specs.Labels.{Open}
 use Rattle.field.specs.Chooser.{Driven}
 use Rattle.field.specs.CrossingLines.{OpenColumn, OpenRow, Lines, HasLines, DrivenBy}
+use Rattle.field.specs.Workings.Marks.{decided, decided-draws}
+use Rattle.field.specs.Workings.AssuredLaws.{open-dec}
 use Rattle.field.specs.Workings.ChooserLaws.{driven-one}
 use Rattle.field.specs.Geometry.Shapes.{Between}
 
@@ -77,15 +78,9 @@ all-dec P dec a b = go (search-least (λ n. ¬ P n) off (min a b) (suc (max a b)
         within (no k) = yes (λ v b. hold (dec v) (g v (b .0) (omega (arith, b .1))))
     go (nowhere g) = yes (λ v b. hold (dec v) (g v (b .0) (omega (arith, b .1))))
 
-module _ (w h : ℕ) (C : ℕ → ℕ → Type 0) (dec : (x y : ℕ) → Dec (C x y)) (sx sy dx dy : ℕ) where
-  open-dec : (x y : ℕ) → Dec (Open w h C x y)
-  open-dec x y = go (decLe (suc x) w) (decLe (suc y) h) (dec x y)
-    where
-      go : Dec (suc x ≤ w) → Dec (suc y ≤ h) → Dec (C x y) → Dec (Open w h C x y)
-      go (yes p) (yes q) (no f) = yes (record { on = record { in-x = omega arith; in-y = omega arith }; free = f })
-      go (yes p) (yes q) (yes c) = no (λ o. o .free c)
-      go (no p) q r = no (λ o. p (omega (arith, o .on .in-x)))
-      go (yes p) (no q) r = no (λ o. q (omega (arith, o .on .in-y)))
+module _ (w h : ℕ) (C : ℕ → ℕ → Type 0) (on : OnMap w h C) (dec : (x y : ℕ) → Dec (C x y)) (sx sy dx dy : ℕ) where
+  here-open : (x y : ℕ) → Dec (Open w h C x y)
+  here-open = open-dec w h C (decided w h dec) (decided-draws w h C on dec)
 
   between-dec : (a u b : ℕ) → Dec (Between a u b)
   between-dec a u b = go (decLe (min a b) u) (decLe u (max a b))
@@ -97,7 +92,7 @@ module _ (w h : ℕ) (C : ℕ → ℕ → Type 0) (dec : (x y : ℕ) → Dec (C 
 
   -- Each line can be looked at.
   pub column-dec : (x : ℕ) → Dec (OpenColumn w h C sx sy dx dy x)
-  column-dec x = go (between-dec sx x dx) (all-dec (λ y. Open w h C x y) (open-dec x) sy dy)
+  column-dec x = go (between-dec sx x dx) (all-dec (λ y. Open w h C x y) (here-open x) sy dy)
     where
       go : Dec (Between sx x dx) → Dec ((y : ℕ) → Between sy y dy → Open w h C x y) → Dec (OpenColumn w h C sx sy dx dy x)
       go (yes p) (yes q) = yes (record { between = p; throughout = q })
@@ -105,7 +100,7 @@ module _ (w h : ℕ) (C : ℕ → ℕ → Type 0) (dec : (x y : ℕ) → Dec (C 
       go (yes p) (no q) = no (λ c. q (c .throughout))
 
   pub row-dec : (y : ℕ) → Dec (OpenRow w h C sx sy dx dy y)
-  row-dec y = go (between-dec sy y dy) (all-dec (λ x. Open w h C x y) (λ x. open-dec x y) sx dx)
+  row-dec y = go (between-dec sy y dy) (all-dec (λ x. Open w h C x y) (λ x. here-open x y) sx dx)
     where
       go : Dec (Between sy y dy) → Dec ((x : ℕ) → Between sx x dx → Open w h C x y) → Dec (OpenRow w h C sx sy dx dy y)
       go (yes p) (yes q) = yes (record { between = p; throughout = q })

@@ -1,20 +1,20 @@
 -- The crossing where an open column and an open row meet. The row is clear from it to each end's column and the column
 -- to each end's row, so it is assured for both ends as if it were home; both have a shortest drive to it, and the two
 -- together are no detour. C is any stable set of crossings on the map.
-use mathlib.Core.Path.{_≡_, refl, sym, _∙_}
-use mathlib.Core.List.{List, _∷_, _++_}
-use Prim.Native.Nat.{ℕ, _+_, _<_, _≤_}
+use mathlib.Core.Path.{_≡_, sym}
+use mathlib.Core.List.{List, _++_}
+use Prim.Native.Nat.{ℕ, _+_, _≤_}
 use native.Mathlib.Omega.{arith}
 use native.Mathlib.Decide.{decLe}
-use lib.ListN.{length, drop}
-use Rattle.field.specs.Map.{Sides, On, OnMap, number, gap, dist}
-use Rattle.field.specs.Labels.{Stable, Open, one}
+use lib.ListN.{drop}
+use Rattle.field.specs.Map.{Sides, OnMap, gap, dist}
+use Rattle.field.specs.Labels.{Stable, Open}
 use Rattle.field.specs.Distances.{Way, eastward, southward, westward, northward, Along, Clear, at-closed, nearest, none}
 use Rattle.field.specs.Distances.{Enough, nothing-that-way, at-most, Axis, level, above, below, Assured}
-use Rattle.field.specs.Drives.{Drive, ShortestDrive, HasDrive}
-use Rattle.field.specs.Chooser.{Driven}
+use Rattle.field.specs.Drives.{ShortestDrive, HasDrive}
 use Rattle.field.specs.CrossingLines.{OpenColumn, OpenRow, HasLines, DrivenBy}
-use Rattle.field.specs.Workings.Sheet.{Draws, Marked, sheet, sheet-at}
+use Rattle.field.specs.Workings.Sheet.{Draws}
+use Rattle.field.specs.Workings.Marks.{decided, decided-draws}
 use Rattle.field.specs.Workings.AxisLaws.{Order, less, same, more, order, gap-above, gap-turned}
 use Rattle.field.specs.Workings.Looking.{clearOf}
 use Rattle.field.specs.Workings.ClearLaws.{clear-of}
@@ -49,26 +49,11 @@ gap-by a m b t = go (decLe a b)
 
 module _ (w h : ℕ) (sides : Sides w h) (C : ℕ → ℕ → Type 0) (on : OnMap w h C) (st : Stable w h C) (dec : (x y : ℕ) → Dec (C x y)) where
   -- A sheet of C, from which distances can be read.
-  marks : List ℕ
-  marks = sheet w h (λ x y. one (dec x y))
-
-  one-mark : {P : Type 0} (d : Dec P) → 0 < one d → P
-  one-mark (yes p) l = p
-  one-mark (no n) l = absurd (omega arith)
-
-  mark-one : {P : Type 0} (d : Dec P) → P → 0 < one d
-  mark-one (yes p) q = omega arith
-  mark-one (no n) q = absurd (n q)
+  abbrev marks : List ℕ
+  marks = decided w h dec
 
   marks-draw : Draws w h C marks
-  unfolding marks
-  marks-draw =
-      record {
-        sound = λ x y m. one-mark (dec x y) (omega (arith, m .mark, sheet-at w h (λ x y. one (dec x y)) x y (m .on)));
-        complete =
-            λ x y c.
-            record { on = on x y c; mark = omega (arith, mark-one (dec x y) c, sheet-at w h (λ x y. one (dec x y)) x y (on x y c)) };
-      }
+  marks-draw = decided-draws w h C on dec
 
   -- One axis of assurance, from m to p, where nothing is closed on m's line from m up to p. L tells what is closed on the line.
   module _ (x y : ℕ) (o : Open w h C x y) (up down : Way) (m p : ℕ) (L : ℕ → Type 0)

@@ -149,7 +149,7 @@ module _ (R : ℕ → ℕ → Type 0) (w h : ℕ) (sides : Sides w h) (dec : (x 
 
   -- Where the test says yes there are a westmost column and a southmost row, and no two.
   pub lines-some : (sx sy dx dy : ℕ) → HasLines w h D sx sy dx dy → (c : ℕ) × (r : ℕ) × Lines w h D sx sy dx dy c r
-  lines-some = LinesLaws.lines-some w h D dec
+  lines-some = LinesLaws.lines-some w h D (closed-on-map R w h) dec
 
   pub lines-one : {sx sy dx dy c r c′ r′ : ℕ} → Lines w h D sx sy dx dy c r → Lines w h D sx sy dx dy c′ r′ → (c ≡ c′) × (r ≡ r′)
   lines-one = LinesLaws.lines-one

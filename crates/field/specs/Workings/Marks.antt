@@ -9,7 +9,8 @@ use native.Mathlib.Omega.{arith}
 use native.Mathlib.Decide.{decLt, map-dec}
 use lib.Dec.{ltb}
 use borrow.Author.Tests.{ltb-true, lt-ltb}
-use Rattle.field.specs.Map.{On, at, Near, east, west, north, south, Apart}
+use Rattle.field.specs.Map.{On, OnMap, at, Near, east, west, north, south, Apart}
+use Rattle.field.specs.Labels.{one}
 use Rattle.field.specs.Workings.Sheet.{Marked, Draws, lit, westOf, southOf, around, sheet, sheet-at}
 pub use Rattle.field.specs.Workings.Tests.{bit-le, bit-true, and-split, and-both, or-split, or-right}
 
@@ -180,3 +181,15 @@ sheet-draws w h P f g k =
       sound = λ x y m. g x y (m .on) (omega (arith, m .mark, sheet-at w h f x y (m .on)));
       complete = λ x y p. let o = k x y p in record { on = o .0; mark = omega (arith, o .1, sheet-at w h f x y (o .0)) };
     }
+
+-- A set on the map that can be told has a sheet: 1 on its crossings, and 0 elsewhere.
+abbrev pub decided : (w h : ℕ) {C : ℕ → ℕ → Type 0} → ((x y : ℕ) → Dec (C x y)) → List ℕ
+decided w h d = sheet w h (λ x y. one (d x y))
+
+pub decided-draws : (w h : ℕ) (C : ℕ → ℕ → Type 0) → OnMap w h C → (d : (x y : ℕ) → Dec (C x y)) → Draws w h C (decided w h d)
+decided-draws w h C on d =
+    sheet-draws w h C (λ x y. one (d x y)) (λ x y i b. told (d x y) .0 b) (λ x y c. (on x y c, told (d x y) .1 c))
+  where
+    told : {P : Type 0} (k : Dec P) → (0 < one k → P) × (P → 0 < one k)
+    told (yes c) = ((λ b. c), λ b. omega arith)
+    told (no f) = ((λ b. absurd (omega arith)), λ c. absurd (f c))

@@ -112,17 +112,8 @@ impl Layer for Plain {
         west: &mut [u8],
         north: &mut [u8],
     ) -> u8 {
-        let lengths = [east.len(), south.len(), west.len(), north.len()];
-        let others = lengths.iter().all(|&n| fits(w, h, n));
-        let markers = match prepare(list, count, w, h, (0, 0), (0, 0), others, labels) {
-            Ok(markers) => markers,
-            Err(refusal) => {
-                return refusal;
-            }
-        };
-        labelling::label(markers, w, h, labels);
-        distances::measure(labels, w, east, south, west, north);
-        SUCCESS
+        let sheets = [east, south, west, north];
+        measured(list, count, w, h, labels, sheets, distances::measure)
     }
 
     #[inline(never)]
@@ -372,6 +363,30 @@ impl Stack {
     }
 }
 
+/// Measuring, whichever way the four sheets, east, south, west and north, are worked out from the labels.
+#[inline(always)]
+fn measured(
+    list: &[Marker],
+    count: usize,
+    w: usize,
+    h: usize,
+    labels: &mut [u8],
+    sheets: [&mut [u8]; 4],
+    by: impl Fn(&[u8], usize, &mut [u8], &mut [u8], &mut [u8], &mut [u8]),
+) -> u8 {
+    let others = sheets.iter().all(|sheet| fits(w, h, sheet.len()));
+    let markers = match prepare(list, count, w, h, (0, 0), (0, 0), others, labels) {
+        Ok(markers) => markers,
+        Err(refusal) => {
+            return refusal;
+        }
+    };
+    labelling::label(markers, w, h, labels);
+    let [east, south, west, north] = sheets;
+    by(labels, w, east, south, west, north);
+    SUCCESS
+}
+
 /// Measuring by looking along row and column again from each crossing. Not the library's method; it shows what the running numbers save.
 pub struct Looking;
 
@@ -388,16 +403,7 @@ impl Looking {
         west: &mut [u8],
         north: &mut [u8],
     ) -> u8 {
-        let lengths = [east.len(), south.len(), west.len(), north.len()];
-        let others = lengths.iter().all(|&n| fits(w, h, n));
-        let markers = match prepare(list, count, w, h, (0, 0), (0, 0), others, labels) {
-            Ok(markers) => markers,
-            Err(refusal) => {
-                return refusal;
-            }
-        };
-        labelling::label(markers, w, h, labels);
-        distances::look_from_each(labels, w, east, south, west, north);
-        SUCCESS
+        let sheets = [east, south, west, north];
+        measured(list, count, w, h, labels, sheets, distances::look_from_each)
     }
 }
