@@ -12,7 +12,7 @@ use Rattle.field.specs.declared.Marker.{Marker}
 use Rattle.field.specs.Refusals.{no-slot}
 use Rattle.mapfile.specs.Raster.{RawFault, raw-short, raw-long, PlainFault, plain-foreign, plain-short, plain-long}
 use Rattle.mapfile.specs.File.{Format, plain, raw, RasterFault, MapFile, FileFault, no-letters, no-header, no-sides, no-raster, NoSlot}
-use Rattle.mapfile.specs.FileLaws.{fault-one, fault-no-map}
+use Rattle.mapfile.specs.FileLaws.{file-fault-one, fault-no-map}
 use Rattle.calls.specs.Rules
 use Rattle.calls.specs.Rules.{LentMap}
 use Rattle.calls.specs.Answers.{ReadFault}
@@ -127,7 +127,7 @@ read-exactly {file} {list} {list′} {r} c = go (ℕ-discrete (r .refusal) 0)
         → ReadExactly file (length list) (r .refusal)
     refusal z (inl f) =
         record {
-          fault = λ k. (λ g. (fault-one f g, fault-number g .0, fault-number g .1), λ t. subst (FileFault file) (t .0) f);
+          fault = λ k. (λ g. (file-fault-one f g, fault-number g .0, fault-number g .1), λ t. subst (FileFault file) (t .0) f);
           full = (λ s. absurd (fault-no-map f (s .map)), λ e. absurd (fault-number f .1 e));
           map = (λ t. absurd (fault-no-map f (t .3)), λ e. absurd (z e));
         }

@@ -23,6 +23,8 @@ pub mod Agree
 pub mod Unread
 pub mod CheckCalls
 pub mod Demands
+pub mod RefusalTable
+pub mod RefusalSettled
 pub mod Sharing
 pub mod ListRead
 pub mod RoundLaws

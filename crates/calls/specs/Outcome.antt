@@ -16,7 +16,7 @@ use Rattle.field.specs.Workings.ChooserLaws.{driven-one}
 use Rattle.markers.specs.Laws.Entering.{entered-one}
 use Rattle.markers.specs.Laws.Clearing.{cleared-one}
 use Rattle.mapfile.specs.File.{MapFile, NoSlot, markersOf}
-use Rattle.mapfile.specs.FileLaws.{map-file-one, fault-one, fault-no-map}
+use Rattle.mapfile.specs.FileLaws.{map-file-one, file-fault-one, fault-no-map}
 use Rattle.mapfile.specs.WrittenLaws.{written-one}
 use Rattle.calls.specs.Rules
 use Rattle.calls.specs.Rules.{gives-one, LentMap, markersIn, RocksOf, ClosedBy}
@@ -213,7 +213,7 @@ pub read-one : {file : List ℕ} {list a b : List Marker} {r s : ReadMap} → Re
 read-one {file} {list} {a} {b} {r} {s} p q = go (ℕ-discrete (r .refusal) 0) (ℕ-discrete (s .refusal) 0)
   where
     faults : (n m : ℕ) → ReadFault file (length list) n → ReadFault file (length list) m → n ≡ m
-    faults n m (inl f) (inl g) = fault-one f g
+    faults n m (inl f) (inl g) = file-fault-one f g
     faults n m (inl f) (inr g) = absurd (fault-no-map f (g .0 .map))
     faults n m (inr f) (inl g) = absurd (fault-no-map g (f .0 .map))
     faults n m (inr f) (inr g) = f .1 ∙ sym (g .1)

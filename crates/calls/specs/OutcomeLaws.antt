@@ -20,7 +20,7 @@ use Rattle.field.specs.Workings.Labelling.{label-sheet-one}
 use Rattle.field.specs.Workings.DistanceLaws.{distance-sheet-one}
 use Rattle.field.specs.Workings.RegionLaws.{region-sheet-one}
 use Rattle.field.specs.Workings.ChooserLaws.{driven-one}
-use Rattle.mapfile.specs.PackedLaws.{Told}
+use Rattle.mapfile.specs.PackedLaws.{Tellable}
 use Rattle.calls.specs.Answers.{Early, LabelsAfter, DistancesAfter, RegionAfter, RouteAfter}
 use Rattle.calls.specs.declared.Counted.{Counted}
 use Rattle.calls.specs.declared.Labelling.{Labelling}
@@ -125,5 +125,5 @@ both-true false true p q = p .1 (q .0 (λ i. true))
 both-true false false p q = λ i. false
 
 -- Whether a crossing is a rock can be told.
-pub rocks-told : (list : List Marker) (w h : ℕ) → Told w h (Rock list)
+pub rocks-told : (list : List Marker) (w h : ℕ) → Tellable w h (Rock list)
 rocks-told list w h x y o = test-dec (rockOf list x y) (of-rock list x y, rock-of list x y)

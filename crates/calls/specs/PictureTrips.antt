@@ -12,7 +12,7 @@ use Rattle.field.specs.Map.{Sides}
 use Rattle.field.specs.Distances.{Way, DistanceSheet}
 use Rattle.picturefile.specs.Picture.{PictureFile, PictureFault}
 use Rattle.picturefile.specs.Written.{PictureWritten}
-use Rattle.picturefile.specs.PictureLaws.{picture-one, fault-one, fault-no-picture, fault-some}
+use Rattle.picturefile.specs.PictureLaws.{picture-one, picture-fault-one, fault-no-picture, fault-some}
 use Rattle.picturefile.specs.WrittenLaws
 use Rattle.picturefile.specs.WrittenLaws.{written-one, written-picture}
 use Rattle.calls.specs.Rules.{gives-one}
@@ -70,7 +70,7 @@ read-sheet-one {file} {sheet} {a} {b} {r} {s} p q = go (ℕ-discrete (r .refusal
         (read-same (z ∙ sym z′) (e .0) (e .1), e .2)
     go (yes z) (no z′) = absurd (fault-no-picture (q .given z′) (p .done z .size) (p .done z .picture))
     go (no z) (yes z′) = absurd (fault-no-picture (p .given z) (q .done z′ .size) (q .done z′ .picture))
-    go (no z) (no z′) = (refused-one not-read (fault-one (p .given z) (q .given z′)) (p .refused z) (q .refused z′), p .kept z ∙ sym (q .kept z′))
+    go (no z) (no z′) = (refused-one not-read (picture-fault-one (p .given z) (q .given z′)) (p .refused z) (q .refused z′), p .kept z ∙ sym (q .kept z′))
 
 -- A fault's number is given exactly for a file with that fault, and 0 exactly for a picture of the
 -- lent sheet's size.
@@ -92,7 +92,7 @@ read-sheet-exactly {file} {sheet} {sheet′} {r} c = go (ℕ-discrete (r .refusa
     go (no z) =
         let f = c .given z in
         record {
-          fault = λ k. (λ g. (fault-one f g, fault-some g), λ t. subst (PictureFault file (length sheet)) (t .0) f);
+          fault = λ k. (λ g. (picture-fault-one f g, fault-some g), λ t. subst (PictureFault file (length sheet)) (t .0) f);
           picture = (λ t. absurd (fault-no-picture f (t .4) (t .3)), λ e. absurd (z e));
         }
 

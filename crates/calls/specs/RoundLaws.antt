@@ -15,7 +15,7 @@ use Rattle.field.specs.Labels.{Rock}
 use Rattle.markers.specs.List.{slot}
 use Rattle.markers.specs.Laws.Rocks.{Stands, rock-stands, stands-rock}
 use Rattle.mapfile.specs.File.{MapFile, markersOf}
-use Rattle.mapfile.specs.PackedLaws.{Told}
+use Rattle.mapfile.specs.PackedLaws.{Tellable}
 use Rattle.mapfile.specs.FileLaws.{fault-no-map}
 use Rattle.mapfile.specs.RockLaws.{raster-crossings, marker-on, markers-apart}
 use Rattle.mapfile.specs.Written.{Written}
@@ -96,7 +96,7 @@ module _ {m : LentMap} {out out′ : List ℕ} {wrote : WroteMap} (c : WriteCall
       let front : bytes ≡ u .file = ap (take (wrote .bytes)) (u .is) ∙ take-at (u .file) (drop (length (u .file)) out) (wrote .bytes) (sym (u .counted)) in
       subst (Written (m .width) (m .height) (RocksOf m)) (sym front) (u .written)
 
-  rocks-tell : Told (m .width) (m .height) (RocksOf m)
+  rocks-tell : Tellable (m .width) (m .height) (RocksOf m)
   rocks-tell = rocks-told (markersIn m) (m .width) (m .height)
 
   rock-on : (x y : ℕ) → RocksOf m x y → OnIt m x y

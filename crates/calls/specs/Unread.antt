@@ -78,7 +78,8 @@ module _ {m : LentMap} {other : List Marker} (a : Agree (m .list) other (m .coun
         done = λ z. rw (asked-in-use a (c .given) (λ t. omega arith)) at (c .done z);
       }
 
-  pub measure-unread : {labels e s f n labels′ e′ s′ f′ n′ : List ℕ} {r : ℕ} → MeasureCall m labels e s f n labels′ e′ s′ f′ n′ r → MeasureCall (with-list m other) labels e s f n labels′ e′ s′ f′ n′ r
+  pub measure-unread : {labels e s f n labels′ e′ s′ f′ n′ : List ℕ} {r : ℕ} → MeasureCall m labels e s f n labels′ e′ s′ f′ n′ r
+      → MeasureCall (with-list m other) labels e s f n labels′ e′ s′ f′ n′ r
   measure-unread c =
       record {
         given = asked-moved a (c .given) (λ e g. g);
@@ -107,7 +108,8 @@ module _ {m : LentMap} {other : List Marker} (a : Agree (m .list) other (m .coun
         done = λ z. rw (asked-in-use a (c .given) (λ t. omega arith)) at (c .done z);
       }
 
-  pub region-unread : {sx sy dx dy : ℕ} {labels region labels′ region′ : List ℕ} {r : ℕ} → RegionCall m sx sy dx dy labels region labels′ region′ r → RegionCall (with-list m other) sx sy dx dy labels region labels′ region′ r
+  pub region-unread : {sx sy dx dy : ℕ} {labels region labels′ region′ : List ℕ} {r : ℕ} → RegionCall m sx sy dx dy labels region labels′ region′ r
+      → RegionCall (with-list m other) sx sy dx dy labels region labels′ region′ r
   region-unread c =
       record {
         given = asked-moved a (c .given) (λ e g. rw e at g);
@@ -115,7 +117,9 @@ module _ {m : LentMap} {other : List Marker} (a : Agree (m .list) other (m .coun
         region-after = region-moved a (c .given) (c .region-after);
       }
 
-  pub drive-unread : {sx sy dx dy : ℕ} {labels region route labels′ region′ route′ : List ℕ} {state state′ : ℕ} {r : Drove} → DriveCall m sx sy dx dy labels region route state labels′ region′ route′ state′ r → DriveCall (with-list m other) sx sy dx dy labels region route state labels′ region′ route′ state′ r
+  pub drive-unread : {sx sy dx dy : ℕ} {labels region route labels′ region′ route′ : List ℕ} {state state′ : ℕ} {r : Drove}
+      → DriveCall m sx sy dx dy labels region route state labels′ region′ route′ state′ r
+      → DriveCall (with-list m other) sx sy dx dy labels region route state labels′ region′ route′ state′ r
   drive-unread c =
       record {
         given = asked-moved a (c .given) (λ e g. rw e at g);

@@ -13,7 +13,7 @@ use Rattle.field.specs.Workings.Labelling.{label-one}
 use Rattle.field.specs.Workings.Counting.{count-one}
 use Rattle.field.specs.Map.{most-markers}
 use Rattle.mapfile.specs.File.{FileRock, MapFile, NoSlot, markersOf}
-use Rattle.mapfile.specs.FileLaws.{map-file-one, fault-one, fault-no-map}
+use Rattle.mapfile.specs.FileLaws.{map-file-one, file-fault-one, fault-no-map}
 use Rattle.chart.specs.Promise.{
   Line,
   last-number,
@@ -111,7 +111,7 @@ no-slot-many {file} n {w} {h} {bits} m l = go (n .many)
     go (inr k) = omega (arith, same)
 
 refusal-one : {file : List ℕ} {n m : ℕ} → Refusal file n → Refusal file m → n ≡ m
-refusal-one (fault f) (fault g) = fault-one f g
+refusal-one (fault f) (fault g) = file-fault-one f g
 refusal-one (fault f) (too-many s e) = absurd (fault-no-map f (s .map))
 refusal-one (too-many s e) (fault f) = absurd (fault-no-map f (s .map))
 refusal-one (too-many s e) (too-many t f) = e ∙ sym f

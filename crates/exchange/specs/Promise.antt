@@ -3,19 +3,23 @@
 -- and 17 or writes. Reading: the first part finds every refusal and has the file's bits; the second
 -- part goes from rock to rock.
 use mathlib.Core.Path.{_≡_}
-use mathlib.Core.List.{List}
+use mathlib.Core.List.{List, [], _∷_}
 use Prim.Native.Nat.{ℕ, _*_, _<_, _≤_}
 use lib.ListN.{length, getD}
 use Rattle.field.specs.Map.{Sides, side, most-markers}
 use Rattle.field.specs.Refusals.{success, shared-crossing}
 use Rattle.field.specs.Workings.MarkCount.{marks}
-use Rattle.writer.specs.Promise.{Asked, Writes, wroteNumber}
+use Rattle.field.specs.Workings.Sheet.{Marked}
+use Rattle.sheets.specs.Promise.{Fits}
+use Rattle.writer.specs.Promise.{wroteNumber}
 use Rattle.writer.specs.declared.Wrote.{Wrote}
 use Rattle.writer.specs.declared.Wrote.the-variants.{Bytes, Short}
 use Rattle.reader.specs.Promise.{readNumber, MapTaken}
 use Rattle.reader.specs.declared.Reading.{Reading}
 use Rattle.reader.specs.declared.Reading.the-variants.{Map, Refused}
-use Rattle.calls.specs.Answers.{no-map, no-bytes, ReadFault}
+use Rattle.calls.specs.Rules.{Rule, Gives, rule, output-rule}
+use Rattle.calls.specs.Parts.{before}
+use Rattle.calls.specs.Answers.{no-map, no-bytes, ReadFault, MapWritten}
 use Rattle.calls.specs.declared.ReadMap.{ReadMap}
 use Rattle.calls.specs.declared.WroteMap.{WroteMap}
 
@@ -32,15 +36,19 @@ wroteMap Short = no-bytes (wroteNumber Short)
 -- What the second part asks: where nothing is refused so far, a map within the limits and a sheet
 -- of its size.
 abbrev pub MayWrite : ℕ → ℕ → ℕ → List ℕ → Type 0
-MayWrite n w h sheet = n ≡ success → Asked w h sheet
+MayWrite n w h sheet = n ≡ success → Fits w h sheet
 
--- The second part of writing, after a first part that gave n. `count` markers are stamped on the
--- sheet: fewer marks than markers mean that two share a crossing.
-pub data WriteRest (n count w h : ℕ) (sheet out after : List ℕ) (r : WroteMap) : Type 0 where
-  refused : ¬ (n ≡ success) → r ≡ no-bytes n → after ≡ out → WriteRest n count w h sheet out after r
-  shared : n ≡ success → ¬ (marks sheet ≡ count) → r ≡ no-bytes shared-crossing → after ≡ out → WriteRest n count w h sheet out after r
-  written : (answer : Wrote) → n ≡ success → marks sheet ≡ count → Writes w h sheet out after answer → r ≡ wroteMap answer
-      → WriteRest n count w h sheet out after r
+-- The rows of the second part of writing, over a sheet on which `count` markers are stamped: fewer
+-- marks than markers mean that two share a crossing.
+abbrev pub stamped-rows : ℕ → ℕ → ℕ → List ℕ → List ℕ → List Rule
+stamped-rows count w h sheet out = rule shared-crossing (¬ (marks sheet ≡ count)) ∷ output-rule w h (Marked sheet w h) out ∷ []
+
+-- The second part of writing, after a first part that gave n.
+pub record WriteRest (n count w h : ℕ) (sheet out out′ : List ℕ) (r : WroteMap) : Type 0 where
+  pub given : Gives (before n ∷ stamped-rows count w h sheet out) (r .refusal)
+  pub kept : ¬ (r .refusal ≡ 0) → out′ ≡ out
+  pub refused : ¬ (r .refusal ≡ 0) → r ≡ no-bytes (r .refusal)
+  pub done : r .refusal ≡ 0 → MapWritten w h (Marked sheet w h) out out′ r
 
 -- Document 01's values for each answer of the reader.
 abbrev pub readMap : Reading → ReadMap
@@ -49,9 +57,10 @@ readMap (Refused n) = no-map (readNumber (Refused n))
 
 -- The first part of reading: the refusal of the file, or of its rocks where they find no slot, or
 -- the map, whose bits are the first of the bytes handed back.
-pub data ReadFirst (file : List ℕ) (lent : ℕ) (out : List ℕ) (r : ReadMap) : Type 0 where
-  refused : (n : ℕ) → ReadFault file lent n → r ≡ readMap (Refused n) → ReadFirst file lent out r
-  found : (w h count : ℕ) → MapTaken file lent w h count out → r ≡ readMap (Map w h count) → ReadFirst file lent out r
+pub record ReadFirst (file : List ℕ) (lent : ℕ) (out : List ℕ) (r : ReadMap) : Type 0 where
+  pub given : ¬ (r .refusal ≡ 0) → ReadFault file lent (r .refusal)
+  pub refused : ¬ (r .refusal ≡ 0) → r ≡ no-map (r .refusal)
+  pub found : r .refusal ≡ 0 → MapTaken file lent (r .width) (r .height) (r .count) out
 
 -- What the next rock asks: there is one at `from` or after it.
 pub record RockAhead (bits : List ℕ) (from : ℕ) : Type 0 where

@@ -34,8 +34,8 @@ module _ (w h : ℕ) (C : ℕ → ℕ → Type 0) (sx sy dx dy : ℕ) (l : List 
   finds-exactly (at-fault f) = ((λ k. absurd (f .some k)), λ d. absurd (fault-refused f (accepted-exactly .1 d)))
 
   -- A list has no two faults: one position, one reason.
-  pub fault-one : {p q r t : ℕ} → AtFault w h C sx sy dx dy l p r → AtFault w h C sx sy dx dy l q t → (p ≡ q) × (r ≡ t)
-  fault-one {p} {q} {r} {t} f g = go (order p q)
+  pub at-fault-one : {p q r t : ℕ} → AtFault w h C sx sy dx dy l p r → AtFault w h C sx sy dx dy l q t → (p ≡ q) × (r ≡ t)
+  at-fault-one {p} {q} {r} {t} f g = go (order p q)
     where
       go : Order p q → (p ≡ q) × (r ≡ t)
       go (less b) = absurd (f .some (gives-one (reasons w h C sx sy dx dy l p) r no-fault (f .why) (g .before p b)))
@@ -48,7 +48,7 @@ module _ (w h : ℕ) (C : ℕ → ℕ → Type 0) (sx sy dx dy : ℕ) (l : List 
   finds-one (accepted a e i) (accepted b k j) = λ n. record { reason = (e ∙ sym k) n; position = (i ∙ sym j) n }
   finds-one (accepted a e i) (at-fault g) = absurd (fault-refused g a)
   finds-one (at-fault f) (accepted b k j) = absurd (fault-refused f b)
-  finds-one (at-fault f) (at-fault g) = let e = fault-one f g in λ n. record { reason = (e .1) n; position = (e .0) n }
+  finds-one (at-fault f) (at-fault g) = let e = at-fault-one f g in λ n. record { reason = (e .1) n; position = (e .0) n }
 
   -- "an accepted list is right": each of its crossings is in the region.
   pub accepted-region : Accepted w h C sx sy dx dy l → (p x y : ℕ) → Has w h l p x y → InRegion w h C sx sy dx dy x y

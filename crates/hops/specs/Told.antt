@@ -16,10 +16,10 @@ use Rattle.distances.specs.Drawn.{assured-drawn}
 use Rattle.hops.specs.Promise.{MayHop}
 
 -- The answer names (a, b).
-abbrev pub Names : HopAnswer → ℕ → ℕ → Type 0
-Names there a b = ⊥
-Names (one c d) a b = (a ≡ c) × (b ≡ d)
-Names (two c d e f) a b = ((a ≡ c) × (b ≡ d)) ⊎ ((a ≡ e) × (b ≡ f))
+abbrev pub AnswerNames : HopAnswer → ℕ → ℕ → Type 0
+AnswerNames there a b = ⊥
+AnswerNames (one c d) a b = (a ≡ c) × (b ≡ d)
+AnswerNames (two c d e f) a b = ((a ≡ c) × (b ≡ d)) ⊎ ((a ≡ e) × (b ≡ f))
 
 module _ {w h : ℕ} {C : ℕ → ℕ → Type 0} {hx hy x y : ℕ} where
   -- The permitted hop on the row is the one that leads along the row, and so on the column.
@@ -42,16 +42,16 @@ module _ {w h : ℕ} {C : ℕ → ℕ → Type 0} {hx hy x y : ℕ} where
   renamed p e = subst₂ (Permitted w h C hx hy x y) (sym (e .0)) (sym (e .1)) p
 
   -- The answer names exactly the permitted hops.
-  pub answer-names : {r : HopAnswer} → Answers w h C hx hy x y r → (a b : ℕ) → (Permitted w h C hx hy x y a b ↔ Names r a b)
+  pub answer-names : {r : HopAnswer} → Answers w h C hx hy x y r → (a b : ℕ) → (Permitted w h C hx hy x y a b ↔ AnswerNames r a b)
   answer-names (at-home t e) a b = rw e (λ p. permitted-away p t, λ n. absurd n)
   answer-names (just c d p f e) a b = rw e (λ q. f a b q, renamed p)
   answer-names (both c d i j p k q l e) a b = rw e (λ o. which (permitted-which o), named)
     where
-      which : ByRow hx x y a b ⊎ ByColumn hy x y a b → Names (two c d i j) a b
+      which : ByRow hx x y a b ⊎ ByColumn hy x y a b → AnswerNames (two c d i j) a b
       which (inl o) = inl (same-row p k o)
       which (inr o) = inr (same-column q l o)
 
-      named : Names (two c d i j) a b → Permitted w h C hx hy x y a b
+      named : AnswerNames (two c d i j) a b → Permitted w h C hx hy x y a b
       named (inl n) = renamed p n
       named (inr n) = renamed q n
 
@@ -85,14 +85,14 @@ module _ {w h : ℕ} {C : ℕ → ℕ → Type 0} {s : List ℕ} (D : Draws w h 
 
   -- It names exactly the permitted hops of C.
   pub told-permitted : {hx hy x y : ℕ} {r : HopAnswer} → Answers w h (Marked s w h) hx hy x y r
-      → (a b : ℕ) → (Permitted w h C hx hy x y a b ↔ Names r a b)
+      → (a b : ℕ) → (Permitted w h C hx hy x y a b ↔ AnswerNames r a b)
   told-permitted t = answer-names (answers-drawn t)
 
   -- It is "there", and names none, exactly at home.
   pub told-there : {hx hy x y : ℕ} {r : HopAnswer} → Answers w h (Marked s w h) hx hy x y r → (r ≡ there ↔ There hx hy x y)
   told-there t = answer-there (answers-drawn t)
 
-  pub told-none : {hx hy x y : ℕ} {r : HopAnswer} → Answers w h (Marked s w h) hx hy x y r → There hx hy x y → (a b : ℕ) → ¬ Names r a b
+  pub told-none : {hx hy x y : ℕ} {r : HopAnswer} → Answers w h (Marked s w h) hx hy x y r → There hx hy x y → (a b : ℕ) → ¬ AnswerNames r a b
   told-none t u a b n = permitted-away (told-permitted t a b .1 n) u
 
   -- Where no open crossing has two closed neighbours and home is assured, a hop may be asked.

@@ -1,16 +1,18 @@
 -- What is judged on numbers and yes-or-no answers alone, before anything is written. Rows on the
 -- list go by an answer about it.
 use mathlib.Core.Path.{_≡_}
-use mathlib.Core.Bool.{Bool, false}
+use mathlib.Core.Bool.{Bool, true, false}
 use mathlib.Core.List.{List, [], _∷_}
 use mathlib.Core.Logic.{_⊎_}
 use Prim.Native.Nat.{ℕ, _+_, _*_, _<_}
 use Rattle.field.specs.Map.{Sides, On, most-markers}
 use Rattle.field.specs.Refusals.{bad-size, bad-sheet, bad-list, bad-place, id-in-use, id-not-in-use, no-slot}
-use Rattle.calls.specs.Rule.{Rule, rule}
+use Rattle.calls.specs.Rule.{Rule, Gives, rule}
+use Rattle.judging.specs.declared.Sought.{Sought}
+use Rattle.judging.specs.declared.Sought.the-variants.{BadSize, BadList, InUse, NotInUse}
 
 -- A sheet of n bytes is of the map's size.
-pub record Fits (w h n : ℕ) : Type 0 where
+pub record OneFit (w h n : ℕ) : Type 0 where
   pub sides : Sides w h
   pub size : n ≡ h * w
 
@@ -32,26 +34,30 @@ asking-judged w h n others well x y a b =
     ∷ rule bad-place ((¬ On w h x y) ⊎ (¬ On w h a b))
     ∷ []
 
--- The rows on a map and a list.
-abbrev pub list-judged : ℕ → ℕ → Bool → List Rule
-list-judged w h well = rule bad-size (¬ Sides w h) ∷ rule bad-list (well ≡ false) ∷ []
+-- What is found of an id at the marker that stands in its place.
+pub record FoundAt (here id : ℕ) (found : Sought) : Type 0 where
+  pub met : here ≡ id → found ≡ InUse
+  pub other : ¬ (here ≡ id) → found ≡ NotInUse
 
--- What was found of the map, the list and an id: a bad size, a bad list, the id in use or the id
--- not in use. The rows of entering and of clearing, by what was found; `lent` is the list's length.
-abbrev pub enter-judged : ℕ → ℕ → ℕ → ℕ → ℕ → ℕ → ℕ → ℕ → List Rule
-enter-judged found w h id x y count lent =
-    rule bad-size (found ≡ bad-size)
-    ∷ rule bad-list (found ≡ bad-list)
-    ∷ rule bad-place ((¬ On w h x y) ⊎ (id ≡ 0))
-    ∷ rule id-in-use (found ≡ id-in-use)
+-- The rows of a new marker on a good map and list: `used` tells whether its id is in use, and
+-- `lent` is the list's length.
+abbrev pub new-judged : Bool → ℕ → ℕ → ℕ → ℕ → ℕ → ℕ → ℕ → List Rule
+new-judged used w h id x y count lent =
+    rule bad-place ((¬ On w h x y) ⊎ (id ≡ 0))
+    ∷ rule id-in-use (used ≡ true)
     ∷ rule no-slot ((lent < count + 1) ⊎ (most-markers < count + 1))
     ∷ []
 
-abbrev pub clear-judged : ℕ → List Rule
-clear-judged found =
-    rule bad-size (found ≡ bad-size) ∷ rule bad-list (found ≡ bad-list) ∷ rule id-not-in-use (found ≡ id-not-in-use) ∷ []
+-- The number of entering, by what was found of the map, the list and the id.
+abbrev pub EnterJudged : Sought → ℕ → ℕ → ℕ → ℕ → ℕ → ℕ → ℕ → ℕ → Type 0
+EnterJudged BadSize w h id x y count lent r = r ≡ bad-size
+EnterJudged BadList w h id x y count lent r = r ≡ bad-list
+EnterJudged InUse w h id x y count lent r = Gives (new-judged true w h id x y count lent) r
+EnterJudged NotInUse w h id x y count lent r = Gives (new-judged false w h id x y count lent) r
 
--- What is found of an id at the marker that stands in its place.
-pub record FoundAt (here id found : ℕ) : Type 0 where
-  pub met : here ≡ id → found ≡ id-in-use
-  pub other : ¬ (here ≡ id) → found ≡ id-not-in-use
+-- The number of clearing, likewise.
+abbrev pub clearNumber : Sought → ℕ
+clearNumber BadSize = bad-size
+clearNumber BadList = bad-list
+clearNumber InUse = 0
+clearNumber NotInUse = id-not-in-use

@@ -17,7 +17,7 @@ ghost use Prim.Native.Nat.{_<_, _^_};
 ghost use Rattle.field.specs.Map.{On};
 ghost use Rattle.markers.specs.Promise.{marker};
 ghost use Rattle.calls.specs.Rule.{Gives};
-ghost use Rattle.judging.specs.Judging.{Fits, FourFit, asking-judged, list-judged, enter-judged, clear-judged, FoundAt};
+ghost use Rattle.judging.specs.Judging.{OneFit, FourFit, asking-judged, FoundAt, new-judged, EnterJudged, clearNumber};
 
 // Whether (x, y) is a crossing of the map.
 fn on_map(w: usize, h: usize, x: usize, y: usize) -> bool
@@ -32,7 +32,7 @@ fn on_map(w: usize, h: usize, x: usize, y: usize) -> bool
 // Whether a sheet of n bytes is of the map's size. The product is made only within the limit, so
 // that it does not overflow.
 pub fn fits(w: usize, h: usize, n: usize) -> bool
-    ensures { λ r. ⌜ ((r ≡ true) ↔ Fits w h n) ⌝ }
+    ensures { λ r. ⌜ ((r ≡ true) ↔ OneFit w h n) ⌝ }
 {
     if !sheets::sized(w, h) {
         return false;
@@ -93,27 +93,23 @@ pub fn lowest(
     SUCCESS
 }
 
-// Refusal 1 or 3, or 0: `formed` tells whether the list is well formed.
-pub fn list_refusal(w: usize, h: usize, formed: bool) -> u8
-    ensures { λ r. ⌜ Gives (list-judged w h formed) r ⌝ }
-{
-    if !sheets::sized(w, h) {
-        return BAD_SIZE;
-    }
-    if !formed {
-        return BAD_LIST;
-    }
-    SUCCESS
+// What is found of the map, the list and an id, in this order: the size is bad, the list is bad, or
+// the id is in use or not.
+pub enum Sought {
+    BadSize,
+    BadList,
+    InUse,
+    NotInUse,
 }
 
-// 5 where the marker that stands in an id's place has that id, and 6 where it has another.
-pub fn bears(m: Marker, id: u16) -> u8
+// What is found of an id at the marker that stands in its place: in use where the marker has it.
+pub fn bears(m: Marker, id: u16) -> Sought
     ensures { λ r. ⌜ FoundAt (m .id) id r ⌝ }
 {
     if m.id == id {
-        return ID_IN_USE;
+        return Sought::InUse;
     }
-    ID_NOT_IN_USE
+    Sought::NotInUse
 }
 
 // The marker with this id on (x, y).
@@ -128,9 +124,9 @@ pub fn marker(id: u16, x: usize, y: usize) -> Marker
     }
 }
 
-// The refusal of entering a marker, or 0, by what was found of its id.
-pub fn enter_refusal(
-    found: u8,
+// The refusal of a new marker on a good map and list, or 0: `used` tells whether its id is in use.
+fn new_refusal(
+    used: bool,
     w: usize,
     h: usize,
     id: u16,
@@ -139,21 +135,15 @@ pub fn enter_refusal(
     count: usize,
     lent: usize,
 ) -> u8
-    ensures { λ r. ⌜ Gives (enter-judged found w h id x y count lent) r ⌝ }
+    ensures { λ r. ⌜ Gives (new-judged used w h id x y count lent) r ⌝ }
 {
-    if found == BAD_SIZE {
-        return BAD_SIZE;
-    }
-    if found == BAD_LIST {
-        return BAD_LIST;
-    }
     if !on_map(w, h, x, y) {
         return BAD_PLACE;
     }
     if id == 0 {
         return BAD_PLACE;
     }
-    if found == ID_IN_USE {
+    if used {
         return ID_IN_USE;
     }
     if lent <= count {
@@ -165,18 +155,35 @@ pub fn enter_refusal(
     SUCCESS
 }
 
-// The refusal of clearing a marker, or 0, by what was found of its id.
-pub fn clear_refusal(found: u8) -> u8
-    ensures { λ r. ⌜ Gives (clear-judged found) r ⌝ }
+// The refusal of entering a marker, or 0, by what was found of its id.
+pub fn enter_refusal(
+    found: Sought,
+    w: usize,
+    h: usize,
+    id: u16,
+    x: usize,
+    y: usize,
+    count: usize,
+    lent: usize,
+) -> u8
+    ensures { λ r. ⌜ EnterJudged found w h id x y count lent r ⌝ }
 {
-    if found == BAD_SIZE {
-        return BAD_SIZE;
+    match found {
+        Sought::BadSize => BAD_SIZE,
+        Sought::BadList => BAD_LIST,
+        Sought::InUse => new_refusal(true, w, h, id, x, y, count, lent),
+        Sought::NotInUse => new_refusal(false, w, h, id, x, y, count, lent),
     }
-    if found == BAD_LIST {
-        return BAD_LIST;
+}
+
+// The refusal of clearing a marker, or 0, by what was found of its id.
+pub fn clear_refusal(found: Sought) -> u8
+    ensures { λ r. ⌜ r ≡ clearNumber found ⌝ }
+{
+    match found {
+        Sought::BadSize => BAD_SIZE,
+        Sought::BadList => BAD_LIST,
+        Sought::InUse => SUCCESS,
+        Sought::NotInUse => ID_NOT_IN_USE,
     }
-    if found == ID_NOT_IN_USE {
-        return ID_NOT_IN_USE;
-    }
-    SUCCESS
 }

@@ -17,7 +17,7 @@ use Rattle.layer.proofs.preparing.prepare.Symbol.{name as #prepare}
 
 -- What `prepare` is asked beside the list: the map, and the two places. Each is a number of 64
 -- bits.
-pub record Asked : Type 0 where
+pub record MapPlaces : Type 0 where
   pub w : ℕ
   pub h : ℕ
   pub x : ℕ
@@ -25,7 +25,7 @@ pub record Asked : Type 0 where
   pub a : ℕ
   pub b : ℕ
 
-pub record Small (k : Asked) : Type 0 where
+pub record Small (k : MapPlaces) : Type 0 where
   pub w : k .w < 2 ^ 64
   pub h : k .h < 2 ^ 64
   pub x : k .x < 2 ^ 64
@@ -34,11 +34,11 @@ pub record Small (k : Asked) : Type 0 where
   pub b : k .b < 2 ^ 64
 
 -- What it has found: the refusal n, and s on the label sheet that held `labels`.
-abbrev pub Found : List Marker → ℕ → Asked → Bool → List ℕ → List ℕ → ℕ → Type 0
+abbrev pub Found : List Marker → ℕ → MapPlaces → Bool → List ℕ → List ℕ → ℕ → Type 0
 Found ys count k others labels s n = Prepared (lentMap ys count (k .w) (k .h)) (k .x) (k .y) (k .a) (k .b) others labels s n
 
 -- The machine values of its arguments.
-abbrev pub prepare-vals : Val → ℕ → Asked → Bool → Val → List Val
+abbrev pub prepare-vals : Val → ℕ → MapPlaces → Bool → Val → List Val
 prepare-vals list count k others sheet =
     list ∷ vint w64 count ∷ vint w64 (k .w) ∷ vint w64 (k .h) ∷ vint w64 (k .x) ∷ vint w64 (k .y) ∷ vint w64 (k .a) ∷ vint w64 (k .b) ∷ vbool others ∷ sheet ∷ []
 
@@ -46,7 +46,7 @@ abbrev pub PrepareC : {M : Type 1} (𝓤 : URA M) (H : Heap 𝓤) (A : Atoms �
 PrepareC 𝓤 H A mem run = prepare.clauses 𝓤 H A mem run
 
 module _ {M : Type 1} (𝓤 : URA M) (H : Heap 𝓤) (A : Atoms 𝓤) (W : Given 𝓤 H A) (mem : Memory → SProp 𝓤) (run : Routine → Fun 𝓤) (κ κ′ : Lft) (q q′ : Share)
-    (i o i′ o′ : ℕ) (γ γ′ : GName) (ys : List Marker) (count : ℕ) (k : Asked) (others : Bool) (old : List ℕ) where
+    (i o i′ o′ : ℕ) (γ γ′ : GName) (ys : List Marker) (count : ℕ) (k : MapPlaces) (others : Bool) (old : List ℕ) where
   abbrev vlist : Val
   vlist = sliceVal (i, o) (length ys)
 
@@ -111,7 +111,7 @@ module _ (F : Form) (ks : Places) where
   places-named = number-named (ks .x) ∷ number-named (ks .y) ∷ number-named (ks .a) ∷ number-named (ks .b) ∷ []
 
   module _ (κs : Lfts (suc (suc (count (F .lent))))) (a : Denots (typesAt (asking-params T.the-row F) κs)) where
-    abbrev pub asked-by : Asked
+    abbrev pub asked-by : MapPlaces
     asked-by =
         let num : Number → ℕ = number-of (F .widths) _ κs (a .1 .1) in
         record { w = num (at 0); h = num (at 1); x = num (ks .x); y = num (ks .y); a = num (ks .a); b = num (ks .b) }

@@ -13,13 +13,13 @@ use Rattle.calls.specs.SameLaws.{region-after-same, route-after-same, region-ro
 use Rattle.calls.specs.Calls.{RegionCall, DriveCall, RouteCall}
 use Rattle.calls.specs.RouteCalls.{drive-part}
 use Rattle.askings.specs.Promise.{ClosedOn, MayDrive, RegionRest, DriveRest, RouteRest}
-use Rattle.judging.specs.Judging.{Fits}
+use Rattle.judging.specs.Judging.{OneFit}
 use Rattle.layer.specs.Prepared.{Prepared}
 use Rattle.layer.proofs.Tables.{not-no}
 use Rattle.layer.proofs.Joining.{one-tells, none-early, others-good, first-good, second-good, closed-alike, may-label, joined-two}
 
 module _ {m : LentMap} {sx sy dx dy : ℕ} {others : Bool} {labels s : List ℕ} {n : ℕ} (p : Prepared m sx sy dx dy others labels s n) {g : List ℕ}
-    (told : (others ≡ true) ↔ Fits (m .width) (m .height) (length g)) where
+    (told : (others ≡ true) ↔ OneFit (m .width) (m .height) (length g)) where
   pub drive-may : MayDrive n (m .width) (m .height) sx sy dx dy s g
   drive-may =
       record {

@@ -21,7 +21,7 @@ use Rattle.calls.specs.RuleLaws.{None, Rises, gives-none, gives-above, Reworded
 use Rattle.calls.specs.Parts.{before}
 use Rattle.calls.specs.Answers.{Early, LabelsAfter}
 use Rattle.askings.specs.Promise.{ClosedOn, MayLabel}
-use Rattle.judging.specs.Judging.{Fits, FourFit}
+use Rattle.judging.specs.Judging.{OneFit, FourFit}
 use Rattle.layer.specs.Prepared.{Prepared, asking-found}
 
 -- `others` tells of the other sheets, on a map within the limit.
@@ -58,7 +58,7 @@ all-tell w h false ss e sides = (λ _. ⊎-elim (λ f. absurd (yes-is-no (sym (e
 pub none-tell : {w h : ℕ} → Tells w h true []
 none-tell sides = (λ z. absurd (yes-is-no z), λ m. absurd m)
 
-pub one-tells : {w h : ℕ} {others : Bool} (s : List ℕ) → ((others ≡ true) ↔ Fits w h (length s)) → Tells w h others (s ∷ [])
+pub one-tells : {w h : ℕ} {others : Bool} (s : List ℕ) → ((others ≡ true) ↔ OneFit w h (length s)) → Tells w h others (s ∷ [])
 one-tells {w} {h} {others} s e =
     all-tell w h others (s ∷ []) (λ z. let f = e .0 z in (f .sides, (f .size, tt)), λ f. e .1 (record { sides = f .0; size = f .1 .0 }))
 

@@ -10,10 +10,10 @@ use native.Mathlib.Decide.{ℕ-discrete}
 use lib.Dec.{lit<}
 use lib.ListN.{length}
 use Rattle.records.specs.Promise.{MayStamp}
-use Rattle.calls.specs.Rules.{LentMap, Sized, Formed, Gives}
+use Rattle.calls.specs.Rules.{LentMap, Formed, Gives}
 use Rattle.calls.specs.RuleLaws.{gives-none, gives-reworded, same, holds, sides-hold}
-use Rattle.judging.specs.Judging.{asking-judged, list-judged}
-use Rattle.layer.specs.Prepared.{asking-found, found-table}
+use Rattle.judging.specs.Judging.{asking-judged}
+use Rattle.layer.specs.Prepared.{asking-found}
 
 -- A no means that P fails.
 no-means : {P : Type 0} (well : Bool) → ((well ≡ true) ↔ P) → ((well ≡ false) ↔ (¬ P))
@@ -43,14 +43,3 @@ module _ (m : LentMap) (well : Bool) (formed : (well ≡ true) ↔ Formed m) whe
         formed = formed .0 (not-no well (free .1 .1 .0));
         size = holds (ℕ-discrete _ _) (λ f. free .1 .0 (inl f));
       }
-
-  -- Of a map and a list: where 0 is given they are good, and else no id is looked for.
-  pub list-gives : (id n : ℕ) → Gives (list-judged (m .width) (m .height) well) n → ¬ (n ≡ 0) → Gives (found-table m id) n
-  list-gives id n (inl p) z = inl p
-  list-gives id n (inr (p, inl q)) z = inr (p, inl (no-means well formed .0 (q .0), q .1))
-  list-gives id n (inr (p, inr q)) z = absurd (z (q .1))
-
-  pub list-good : (n : ℕ) → Gives (list-judged (m .width) (m .height) well) n → n ≡ 0 → (¬ ¬ Sized m) × Formed m
-  list-good n (inl p) z = absurd (omega (arith, p .1))
-  list-good n (inr (p, inl q)) z = absurd (omega (arith, q .1))
-  list-good n (inr (p, inr q)) z = (p, formed .0 (not-no well (q .0)))

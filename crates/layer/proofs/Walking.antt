@@ -22,7 +22,7 @@ use mir.Syntax.{Opd as Operand}
 use types.Kit.{drop}
 use prog.Routine.{Env as RoutineEnv}
 use Rattle.field.proofs.Marker as T
-use Rattle.layer.proofs.Asking.{Asked, Small, Found, Places, Wide, places-named, asked-by, small-by, PrepareC, prepare-vals, prepares, to-prepare}
+use Rattle.layer.proofs.Asking.{MapPlaces, Small, Found, Places, Wide, places-named, asked-by, small-by, PrepareC, prepare-vals, prepares, to-prepare}
 use Rattle.layer.proofs.preparing.prepare as prepare
 use Rattle.layer.proofs.preparing.prepare.Symbol as prepare-def
 use Rattle.layer.proofs.preparing.prepare.Symbol.{name as #prepare}
@@ -67,13 +67,13 @@ module _ {M : Type 1} (𝓤 : URA M) (H : Heap 𝓤) (A : Atoms 𝓤) (W : Given
   Answers = (κs : Lifetimes) (a : Arguments κs) (n : ℕ) (s : List ℕ) → Answer F κs → Ends κs a n s → Type 0
 
   -- ---- what an asking does around its two calls Judged: what it has learnt of the other sheets
-  -- before `prepare`, and by that whether they fit. Asked: what it asks `prepare`. Then the
+  -- before `prepare`, and by that whether they fit. `asked`: what it asks `prepare`. Then the
   -- operands of the two calls, the local to which `prepare` answers, what the code does between the
   -- calls, and what is known of the locals before the first.
   pub record Plan : Type 1 where
     pub Judged : (κs : Lifetimes) → Arguments κs → Type 0
     pub others : (κs : Lifetimes) (a : Arguments κs) → Judged κs a → Bool
-    pub asked : (κs : Lifetimes) → Arguments κs → Asked
+    pub asked : (κs : Lifetimes) → Arguments κs → MapPlaces
     pub to-first : List Operand
     pub answer : ℕ
     pub between : (κs : Lifetimes) → Arguments κs → List Stmt

@@ -1,10 +1,11 @@
 -- From the parts of reading to the call's promise. Where the first part refuses, the count is 0,
 -- and the second part puts nothing; else it puts the markers of the map in the first slots.
-use mathlib.Core.Path.{_≡_, refl, sym, ap, ap₂, _∙_}
+use mathlib.Core.Path.{_≡_, sym, ap, _∙_}
 use mathlib.Core.List.{List, [], _∷_, _++_, append-assoc}
 use mathlib.Core.Logic.{_⊎_, inl, inr}
 use Prim.Native.Nat.{ℕ, suc, _+_, _*_, _<_, _≤_}
 use native.Mathlib.Omega.{arith}
+use native.Mathlib.Decide.{ℕ-discrete}
 use native.Mathlib.Numerals.{add-one}
 use lib.ListN.{length, set, take, drop, length-append, length-drop}
 use lib.Seq.{take-suc, drop-cons, set-at, take-all, length-take-le}
@@ -15,9 +16,7 @@ use Rattle.field.specs.Limits.{most-crossings-is, crossings-few}
 use Rattle.markers.specs.List.{slot}
 use Rattle.mapfile.specs.File.{markersOf, NoSlot}
 use Rattle.mapfile.specs.FileLaws.{map-file-one}
-use Rattle.calls.specs.Answers.{ReadFault}
-use Rattle.calls.specs.Exactly.{fault-number}
-use Rattle.exchange.specs.Promise.{ReadFirst, refused, found}
+use Rattle.exchange.specs.Promise.{ReadFirst}
 use Rattle.layer.specs.Files.{MayPut, putIn}
 use Rattle.calls.specs.Calls.{ReadCall}
 use Rattle.calls.specs.declared.ReadMap.{ReadMap}
@@ -40,70 +39,45 @@ put-more list markers k l m =
 -- The second part may put as many as are counted.
 pub may-put : {file : List ℕ} {list : List Marker} {out : List ℕ} {r : ReadMap} → side * side ≤ length out → ReadFirst file (length list) out r
     → MayPut list (r .count) (r .width) (r .height) out
-may-put {r = r} l (refused n f e) =
-    let none : r .count ≡ 0 = ap (λ (a : ReadMap). a .count) e in
-    record { lent = omega arith; bits-of = λ some. absurd (omega arith) }
-may-put {out = out} {r = r} l (found w h count f e) =
-    let many : r .count ≡ count = ap (λ (a : ReadMap). a .count) e in
-    record {
-      lent = omega (arith, f .within);
-      bits-of = λ some. rw (ap (λ (a : ReadMap). a .width) e, ap (λ (a : ReadMap). a .height) e, many)
-          (record { sides = f .map .sides; all = omega (arith, crossings-few (f .map .sides), most-crossings-is); counted = f .counted; few = f .few });
-    }
+may-put {list = list} {out = out} {r = r} l q = go (ℕ-discrete (r .refusal) 0)
+  where
+    go : Dec (r .refusal ≡ 0) → MayPut list (r .count) (r .width) (r .height) out
+    go (yes z) =
+        let f = q .found z in
+        record {
+          lent = f .within;
+          bits-of = λ some. record { sides = f .map .sides; all = omega (arith, crossings-few (f .map .sides), most-crossings-is); counted = f .counted; few = f .few };
+        }
+    go (no f) =
+        let none : r .count ≡ 0 = ap (λ (a : ReadMap). a .count) (q .refused f) in
+        record { lent = omega arith; bits-of = λ some. absurd (omega arith) }
 
 -- The call's promise.
 pub read-call : {file : List ℕ} {list list′ : List Marker} {out : List ℕ} {r : ReadMap} → ReadFirst file (length list) out r
     → list′ ≡ putIn list (r .count) (markersOf (r .width) (r .height) (take (r .height * r .width) out)) → ReadCall file list list′ r
-read-call {file} {list} {list′} {out} {r} (refused n f e) s =
-    rw e
-    (record {
-      given = λ _. f;
-      kept = λ _. s ∙ ap (λ (k : ℕ). putIn list k (markersOf (r .width) (r .height) (take (r .height * r .width) out))) (ap (λ (a : ReadMap). a .count) e);
-      refused = λ _. refl;
-      done = λ z. absurd (some f z);
-    })
-  where
-    some : ReadFault file (length list) n → ¬ (n ≡ 0)
-    some (inl g) = fault-number g .0
-    some (inr g) = omega (arith, g .1)
-read-call {file} {list} {list′} {out} {r} (found w h count f e) s =
+read-call {file} {list} {list′} {out} {r} q s =
     record {
-      given = λ z. absurd (z number);
-      kept = λ z. absurd (z number);
-      refused = λ z. absurd (z number);
-      done = λ _. record {
-        bits = take (h * w) out;
-        map = rw (width, height) (f .map);
-        counted = rw (width, height) counted;
-        room = room;
-        slots = rw (width, height) slots;
+      given = q .given;
+      kept = λ f. s ∙ ap (λ (k : ℕ). putIn list k markers) (ap (λ (a : ReadMap). a .count) (q .refused f));
+      refused = q .refused;
+      done = λ z. record {
+        bits = take (r .height * r .width) out;
+        map = q .found z .map;
+        counted = q .found z .counted;
+        room = room z;
+        slots = s ∙ ap (λ (t : List Marker). t ++ drop (r .count) list) (take-all (r .count) markers (omega (arith, q .found z .counted)));
       };
     }
   where
-    number : r .refusal ≡ 0
-    number = ap (λ (a : ReadMap). a .refusal) e
+    markers : List Marker
+    markers = markersOf (r .width) (r .height) (take (r .height * r .width) out)
 
-    width : r .width ≡ w
-    width = ap (λ (a : ReadMap). a .width) e
-
-    height : r .height ≡ h
-    height = ap (λ (a : ReadMap). a .height) e
-
-    counted : r .count ≡ length (markersOf w h (take (h * w) out))
-    counted = ap (λ (a : ReadMap). a .count) e ∙ f .counted
-
-    slots : list′ ≡ markersOf w h (take (h * w) out) ++ drop (r .count) list
-    slots =
-        s
-        ∙ ap₂ (λ (a b : ℕ). putIn list (r .count) (markersOf a b (take (b * a) out))) width height
-        ∙ ap (λ (t : List Marker). t ++ drop (r .count) list) (take-all (r .count) (markersOf w h (take (h * w) out)) (omega (arith, counted)))
-
-    room : ¬ NoSlot file (length list)
-    room t = go (t .many)
+    room : r .refusal ≡ 0 → ¬ NoSlot file (length list)
+    room z t = go (t .many)
       where
-        same : length (markersOf (t .w) (t .h) (t .bits)) ≡ count
-        same = let o = map-file-one (t .map) (f .map) in rw (o .0, o .1, o .2) (sym (f .counted))
+        same : length (markersOf (t .w) (t .h) (t .bits)) ≡ r .count
+        same = let o = map-file-one (t .map) (q .found z .map) in rw (o .0, o .1, o .2) (sym (q .found z .counted))
 
         go : (length list < length (markersOf (t .w) (t .h) (t .bits))) ⊎ (most-markers < length (markersOf (t .w) (t .h) (t .bits))) → ⊥
-        go (inl l) = omega (arith, same, f .within)
-        go (inr l) = omega (arith, same, f .few)
+        go (inl l) = omega (arith, same, q .found z .within)
+        go (inr l) = omega (arith, same, q .found z .few)

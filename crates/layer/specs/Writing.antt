@@ -2,31 +2,26 @@
 -- the table: the sheet is of the map's size and no place is asked. The second part's are rows 16
 -- and 17: the sheet's marks are the list's rocks, and as many as the markers exactly where no two
 -- share one.
-use mathlib.Core.Path.{_≡_, refl, ap, _∙_}
+use mathlib.Core.Path.{_≡_, refl, _∙_}
 use mathlib.Core.Bool.{true, false, true≢false}
-use mathlib.Core.List.{List, _++_}
+use mathlib.Core.List.{List, [], _∷_}
 use mathlib.Core.Logic.{_↔_, _⊎_, inl, inr}
 use Prim.Native.Nat.{ℕ, _+_, _*_, _-_, _<_}
 use native.Mathlib.Omega.{arith}
-use native.Mathlib.Decide.{map-dec}
-use lib.ListN.{length, drop}
+use lib.ListN.{length}
 use Rattle.field.specs.Map.{On}
-use Rattle.field.specs.Refusals.{success, bad-size, bad-list, shared-crossing}
+use Rattle.field.specs.Refusals.{success, bad-size, bad-list}
 use Rattle.field.specs.Workings.MarkCount.{marks}
 use Rattle.field.specs.Workings.Sheet.{Marked}
-use Rattle.field.specs.Workings.Marks.{marked-dec}
 use Rattle.mapfile.specs.Written.{Written}
-use Rattle.mapfile.specs.WrittenLaws.{written-one}
-use Rattle.writer.specs.Promise.{Asked, Writes}
-use Rattle.writer.specs.declared.Wrote.{Wrote}
-use Rattle.writer.specs.declared.Wrote.the-variants.{Bytes, Short}
+use Rattle.sheets.specs.Promise.{Fits}
 use Rattle.calls.specs.Rules
-use Rattle.calls.specs.Rules.{LentMap, Sized, OnIt, Formed, RocksOf, Gives, TooShort}
-use Rattle.calls.specs.Answers.{no-bytes}
-use Rattle.calls.specs.RuleLaws.{sides-hold, formed-holds}
+use Rattle.calls.specs.Rules.{LentMap, Sized, OnIt, Formed, RocksOf, Gives, Shared, TooShort}
+use Rattle.calls.specs.Parts.{before}
+use Rattle.calls.specs.RuleLaws.{sides-hold, formed-holds, gives-reworded}
 use Rattle.layer.specs.Prepared.{asking-found, Prepared}
 use Rattle.layer.specs.Sharing.{marks-apart, marks-shared}
-use Rattle.exchange.specs.Promise.{Area, MayWrite, wroteMap, WriteRest, refused, shared, written}
+use Rattle.exchange.specs.Promise.{Area, MayWrite, stamped-rows, WriteRest}
 use Rattle.calls.specs.Calls.{WriteCall}
 use Rattle.calls.specs.declared.WroteMap.{WroteMap}
 
@@ -85,7 +80,7 @@ module _ {m : LentMap} {n : ℕ} {sheet sheet′ : List ℕ} (area : Area (m .wi
   pub may-write : MayWrite n (m .width) (m .height) sheet′
   may-write z = go first
     where
-      go : First m n → Asked (m .width) (m .height) sheet′
+      go : First m n → Fits (m .width) (m .height) sheet′
       go (no-size s e) = absurd (omega arith)
       go (no-list s f e) = absurd (omega arith)
       go (passed s f e) = record { sides = s; size = p .stamped z .size }
@@ -94,66 +89,51 @@ module _ {m : LentMap} {n : ℕ} {sheet sheet′ : List ℕ} (area : Area (m .wi
   marked-rock : n ≡ success → (x y : ℕ) → OnIt m x y → (Marked sheet′ (m .width) (m .height) x y ↔ RocksOf m x y)
   marked-rock z x y o = (λ k. p .stamped z .rocks .sound x y k .stone, λ r. p .stamped z .rocks .complete x y (record { on = o; stone = r }))
 
-  -- And the file over its marks is the file over them.
-  carried : n ≡ success → {file : List ℕ} → Written (m .width) (m .height) (Marked sheet′ (m .width) (m .height)) file → Written (m .width) (m .height) (RocksOf m) file
-  carried z = written-moved (marked-rock z)
+  -- So the file over its marks is the file over them, and its rows 16 and 17 are the list's.
+  carried : n ≡ success → {file : List ℕ} → Written (m .width) (m .height) (Marked sheet′ (m .width) (m .height)) file ↔ Written (m .width) (m .height) (RocksOf m) file
+  carried z = (written-moved (marked-rock z), written-moved (λ x y o. (marked-rock z x y o .1, marked-rock z x y o .0)))
 
-  file-one : n ≡ success → (file other : List ℕ) → Written (m .width) (m .height) (RocksOf m) file → Written (m .width) (m .height) (RocksOf m) other → file ≡ other
-  file-one z =
-      written-one (m .width) (m .height) (RocksOf m)
-      (λ x y o. map-dec (marked-rock z x y o .0) (marked-rock z x y o .1) (marked-dec sheet′ (m .width) (m .height) x y))
+  shared-both : Formed m → n ≡ success → (¬ (marks sheet′ ≡ m .count)) ↔ Shared (m .list) (m .count)
+  shared-both f z = (marks-shared sheet′ f (p .stamped z), λ t k. marks-apart sheet′ f (p .stamped z) k t)
 
-  module _ {out out′ : List ℕ} {r : WroteMap} where
-    -- A refusal: its number alone, and every byte as it was.
-    refusal : {k : ℕ} → Gives (Rules.write-table m out) k → ¬ (k ≡ success) → r ≡ no-bytes k → out′ ≡ out → WriteCall m out out′ r
-    refusal g f e same = rw e (record { given = g; kept = λ _. same; refused = λ _. refl; done = λ z. absurd (f z) })
+  short-both : n ≡ success → {out : List ℕ} → TooShort (m .width) (m .height) (Marked sheet′ (m .width) (m .height)) out ↔ TooShort (m .width) (m .height) (RocksOf m) out
+  short-both z =
+      (λ t. record { file = t .file; written = carried z .0 (t .written); short = t .short }, λ t. record { file = t .file; written = carried z .1 (t .written); short = t .short })
 
-    -- One that the first part found.
-    early : First m n → ¬ (n ≡ success) → r ≡ no-bytes n → out′ ≡ out → WriteCall m out out′ r
-    early (no-size s d) f = refusal (inl (s, d)) f
-    early (no-list s t d) f = refusal (inr (λ u. u s, inl (t, d))) f
-    early (passed s t d) f = absurd (f d)
+  module _ {out out′ : List ℕ} {r : WroteMap} (q : WriteRest n (m .count) (m .width) (m .height) sheet′ out out′ r) where
+    -- The rows of both parts are the table's.
+    table : First m n → Gives (before n ∷ stamped-rows (m .count) (m .width) (m .height) sheet′ out) (r .refusal) → Gives (Rules.write-table m out) (r .refusal)
+    table (no-size s d) (inl g) = inl (s, g .1 ∙ d)
+    table (no-size s d) (inr g) = absurd (g .0 (λ e. omega arith))
+    table (no-list s f d) (inl g) = inr (λ u. u s, inl (f, g .1 ∙ d))
+    table (no-list s f d) (inr g) = absurd (g .0 (λ e. omega arith))
+    table (passed s f d) (inl g) = absurd (g .0 d)
+    table (passed s f d) (inr g) =
+        inr (
+          λ u. u s,
+          inr (
+            λ u. u f,
+            gives-reworded (stamped-rows (m .count) (m .width) (m .height) sheet′ out) (Rules.shared-rule m ∷ Rules.output-rule (m .width) (m .height) (RocksOf m) out ∷ []) (r .refusal)
+                (refl, shared-both f d, λ _. (refl, short-both d, λ _. tt)) (g .1),
+          ),
+        )
 
-    module _ (s : Sized m) (f : Formed m) (z : n ≡ success) where
-      -- Two markers on one crossing.
-      twice : ¬ (marks sheet′ ≡ m .count) → r ≡ no-bytes shared-crossing → out′ ≡ out → WriteCall m out out′ r
-      twice k = refusal (inr (λ u. u s, inr (λ u. u f, inl (marks-shared sheet′ f (p .stamped z) k, refl)))) (λ y. omega arith)
-
-      -- The file is written, or the output is too short for it.
-      filed : marks sheet′ ≡ m .count → (answer : Wrote) → Writes (m .width) (m .height) sheet′ out out′ answer → r ≡ wroteMap answer → WriteCall m out out′ r
-      filed k (Bytes i) q e =
-          rw e
-          (record {
-            given = inr (λ u. u s, inr (λ u. u f, inr (marks-apart sheet′ f (p .stamped z) k, inr (fits, refl))));
-            kept = λ y. absurd (y refl);
-            refused = λ y. absurd (y refl);
-            done = λ _. record {
-              file = q .file;
-              written = carried z (q .written);
-              counted = q .counted;
-              is = q .is ∙ ap (λ (j : ℕ). q .file ++ drop j out) (q .counted);
-            };
-          })
-        where
-          fits : ¬ TooShort (m .width) (m .height) (RocksOf m) out
-          fits t = omega (arith, t .short, q .fits, q .counted, ap length (file-one z (t .file) (q .file) (t .written) (carried z (q .written))))
-      filed k Short q e =
-          refusal
-          (inr (λ u. u s, inr (λ u. u f, inr (marks-apart sheet′ f (p .stamped z) k, inl (record { file = q .file; written = carried z (q .written); short = q .long }, refl)))))
-          (λ y. omega arith) e (q .same)
+    -- Where nothing is refused, nothing was before.
+    none-before : First m n → Gives (before n ∷ stamped-rows (m .count) (m .width) (m .height) sheet′ out) (r .refusal) → r .refusal ≡ 0 → n ≡ success
+    none-before (no-size s d) (inl g) z = absurd (omega (arith, g .1))
+    none-before (no-size s d) (inr g) z = absurd (g .0 (λ e. omega arith))
+    none-before (no-list s f d) (inl g) z = absurd (omega (arith, g .1))
+    none-before (no-list s f d) (inr g) z = absurd (g .0 (λ e. omega arith))
+    none-before (passed s f d) g z = d
 
     -- The call's promise.
-    pub write-call : WriteRest n (m .count) (m .width) (m .height) sheet′ out out′ r → WriteCall m out out′ r
-    write-call (refused z e same) = early first z e same
-    write-call (shared z k e same) = go first
-      where
-        go : First m n → WriteCall m out out′ r
-        go (no-size s d) = absurd (omega arith)
-        go (no-list s f d) = absurd (omega arith)
-        go (passed s f d) = twice s f z k e same
-    write-call (written answer z k q e) = go first
-      where
-        go : First m n → WriteCall m out out′ r
-        go (no-size s d) = absurd (omega arith)
-        go (no-list s f d) = absurd (omega arith)
-        go (passed s f d) = filed s f z k answer q e
+    pub write-call : WriteCall m out out′ r
+    write-call =
+        record {
+          given = table first (q .given);
+          kept = q .kept;
+          refused = q .refused;
+          done = λ z.
+              let w = q .done z in
+              record { file = w .file; written = carried (none-before first (q .given) z) .0 (w .written); counted = w .counted; is = w .is };
+        }

@@ -13,27 +13,30 @@ use calls::Four;
 use calls::Homeward;
 use calls::Labelling;
 use field::Marker;
-use field::refusals::ID_NOT_IN_USE;
 use field::refusals::SUCCESS;
+use judging::Sought;
 use preparing::prepare;
-ghost use Rattle.calls.specs.Rules.{Gives, lentMap};
+ghost use Rattle.calls.specs.Rules.{lentMap};
 ghost use Rattle.calls.specs.Calls.{EnterCall, ClearCall, LabelCall, DistancesCall, MeasureCall, AssuredCall, HopCall, RegionCall, DriveCall};
 ghost use Rattle.calls.specs.CheckCall.{CheckCall};
-ghost use Rattle.layer.specs.Prepared.{found-table};
+ghost use Rattle.layer.specs.Prepared.{Seeks};
 
-// What is found of the map, the list and an id: refusal 1 or 3, or the id in use, 5, or not in use,
-// 6.
-fn seek(list: &[Marker], count: usize, w: usize, h: usize, id: u16) -> u8
-    ensures { λ r. ⌜ Gives (found-table (lentMap (now (list .entry)) count w h) id) r ⌝ }
+// What is found of the map, the list and an id. The id is looked for only where the list is well
+// formed.
+fn seek(list: &[Marker], count: usize, w: usize, h: usize, id: u16) -> Sought
+    ensures { λ r. ⌜ Seeks (lentMap (now (list .entry)) count w h) id r ⌝ }
 {
+    let sized = sheets::sized(w, h);
+    if !sized {
+        return Sought::BadSize;
+    }
     let well = records::well_formed(list, count, w, h);
-    let n = judging::list_refusal(w, h, well);
-    if n != SUCCESS {
-        return n;
+    if !well {
+        return Sought::BadList;
     }
     let k = records::place_of(list, count, id);
     if count <= k {
-        return ID_NOT_IN_USE;
+        return Sought::NotInUse;
     }
     judging::bears(list[k], id)
 }

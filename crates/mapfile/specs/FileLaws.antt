@@ -101,29 +101,29 @@ fault-no-map {file} {bits} {n} (no-raster f after body a b l k s r) m =
     (begins-move (λ (g : Format) (c d : ℕ) (t : List ℕ). Raster g c d t bits) (begins f after l k) (map-begins m) (m .raster))
 
 -- A file has one fault at most: each excludes what the later ones ask.
-pub fault-one : {file : List ℕ} {n m : ℕ} → FileFault file n → FileFault file m → n ≡ m
-fault-one (no-letters none e) (no-letters none′ e′) = omega arith
-fault-one (no-letters none e) (no-header g after′ l′ none′ e′) = absurd (none g after′ l′)
-fault-one (no-letters none e) (no-sides g after′ body′ c d l′ k′ s′ e′) = absurd (none g after′ l′)
-fault-one (no-letters none e) (no-raster g after′ body′ c d l′ k′ s′ r′) = absurd (none g after′ l′)
-fault-one (no-header f after l none e) (no-letters none′ e′) = absurd (none′ f after l)
-fault-one (no-header f after l none e) (no-header g after′ l′ none′ e′) = omega arith
-fault-one (no-header f after l none e) (no-sides g after′ body′ c d l′ k′ s′ e′) =
+pub file-fault-one : {file : List ℕ} {n m : ℕ} → FileFault file n → FileFault file m → n ≡ m
+file-fault-one (no-letters none e) (no-letters none′ e′) = omega arith
+file-fault-one (no-letters none e) (no-header g after′ l′ none′ e′) = absurd (none g after′ l′)
+file-fault-one (no-letters none e) (no-sides g after′ body′ c d l′ k′ s′ e′) = absurd (none g after′ l′)
+file-fault-one (no-letters none e) (no-raster g after′ body′ c d l′ k′ s′ r′) = absurd (none g after′ l′)
+file-fault-one (no-header f after l none e) (no-letters none′ e′) = absurd (none′ f after l)
+file-fault-one (no-header f after l none e) (no-header g after′ l′ none′ e′) = omega arith
+file-fault-one (no-header f after l none e) (no-sides g after′ body′ c d l′ k′ s′ e′) =
     absurd (headless f l none (begins g after′ l′ k′))
-fault-one (no-header f after l none e) (no-raster g after′ body′ c d l′ k′ s′ r′) =
+file-fault-one (no-header f after l none e) (no-raster g after′ body′ c d l′ k′ s′ r′) =
     absurd (headless f l none (begins g after′ l′ k′))
-fault-one (no-sides f after body a b l k s e) (no-letters none′ e′) = absurd (none′ f after l)
-fault-one (no-sides f after body a b l k s e) (no-header g after′ l′ none′ e′) =
+file-fault-one (no-sides f after body a b l k s e) (no-letters none′ e′) = absurd (none′ f after l)
+file-fault-one (no-sides f after body a b l k s e) (no-header g after′ l′ none′ e′) =
     absurd (headless g l′ none′ (begins f after l k))
-fault-one (no-sides f after body a b l k s e) (no-sides g after′ body′ c d l′ k′ s′ e′) = omega arith
-fault-one (no-sides f after body a b l k s e) (no-raster g after′ body′ c d l′ k′ s′ r′) =
+file-fault-one (no-sides f after body a b l k s e) (no-sides g after′ body′ c d l′ k′ s′ e′) = omega arith
+file-fault-one (no-sides f after body a b l k s e) (no-raster g after′ body′ c d l′ k′ s′ r′) =
     absurd (s (begins-move sides (begins f after l k) (begins g after′ l′ k′) s′))
-fault-one (no-raster f after body a b l k s r) (no-letters none′ e′) = absurd (none′ f after l)
-fault-one (no-raster f after body a b l k s r) (no-header g after′ l′ none′ e′) =
+file-fault-one (no-raster f after body a b l k s r) (no-letters none′ e′) = absurd (none′ f after l)
+file-fault-one (no-raster f after body a b l k s r) (no-header g after′ l′ none′ e′) =
     absurd (headless g l′ none′ (begins f after l k))
-fault-one (no-raster f after body a b l k s r) (no-sides g after′ body′ c d l′ k′ s′ e′) =
+file-fault-one (no-raster f after body a b l k s r) (no-sides g after′ body′ c d l′ k′ s′ e′) =
     absurd (s′ (begins-move sides (begins g after′ l′ k′) (begins f after l k) s))
-fault-one {file} {n} {m} (no-raster f after body a b l k s r) (no-raster g after′ body′ c d l′ k′ s′ r′) =
+file-fault-one {file} {n} {m} (no-raster f after body a b l k s r) (no-raster g after′ body′ c d l′ k′ s′ r′) =
     raster-fault-one f a b body r
     (begins-move (λ (t : Format) (p q : ℕ) (u : List ℕ). RasterFault t p q u m) (begins f after l k)
     (begins g after′ l′ k′) r′)

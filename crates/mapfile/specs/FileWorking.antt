@@ -18,7 +18,7 @@ use Rattle.mapfile.specs.RasterWorking.{rawBits, digitsOf, plainVerdict}
 use Rattle.mapfile.specs.RasterLaws.{raw-raster, digits-are}
 use Rattle.mapfile.specs.PlainSound.{PlainTold, plain-told}
 use Rattle.mapfile.specs.File.{Format, plain, raw, lettersOf, Letters, Raster, RasterFault, MapFile, FileFault, no-letters, no-header, no-sides, no-raster}
-use Rattle.mapfile.specs.FileLaws.{map-file-one, fault-one, fault-no-map}
+use Rattle.mapfile.specs.FileLaws.{map-file-one, file-fault-one, fault-no-map}
 
 -- What a file is found to be.
 pub data Found : Type 0 where
@@ -187,4 +187,4 @@ fault-found {file} {n} f = go (fileFound file) (file-told file)
   where
     go : (o : Found) → FileTold file o → o ≡ a-fault n
     go (a-map a b cs) t = absurd (fault-no-map f t)
-    go (a-fault k) t = let p : k ≡ n = fault-one t f in cc
+    go (a-fault k) t = let p : k ≡ n = file-fault-one t f in cc

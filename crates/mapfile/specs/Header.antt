@@ -21,7 +21,7 @@ pub data LineEnd (b : ℕ) : Type 0 where
 pub record Comment (l : List ℕ) : Type 0 where
   pub text : List ℕ
   pub end : ℕ
-  pub plain : (k : ℕ) → k < length text → ¬ LineEnd (getD text k 0)
+  pub no-line-end : (k : ℕ) → k < length text → ¬ LineEnd (getD text k 0)
   pub ended : LineEnd end
   pub is : l ≡ 35 ∷ text ++ end ∷ []
 

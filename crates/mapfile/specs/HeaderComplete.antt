@@ -94,7 +94,7 @@ items-skipped (comment-item {n} {l} {k} c q i e) rest f seen s = rw e (whole ∙
     whole : afterItems (c ++ k ++ rest) seen ≡ afterItems (k ++ rest) seen
     whole =
         rw (q .is, append-assoc)
-        (items-hash _ seen refl ∙ rw (append-assoc (q .text) (q .end ∷ []) (k ++ rest)) (comment-skipped (q .text) (k ++ rest) seen (q .plain) (q .ended)))
+        (items-hash _ seen refl ∙ rw (append-assoc (q .text) (q .end ∷ []) (k ++ rest)) (comment-skipped (q .text) (k ++ rest) seen (q .no-line-end) (q .ended)))
 
 -- The number ends at the first byte that is no digit.
 number-end : (rest : List ℕ) → NoDigitFirst rest → (n v : ℕ) → 1 ≤ n → numberFrom rest n v ≡ value v rest

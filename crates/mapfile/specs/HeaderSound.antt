@@ -68,7 +68,7 @@ pub record ItemsBefore (l rest : List ℕ) (seen : Bool) : Type 0 where
 pub record CommentBefore (l rest : List ℕ) (seen : Bool) : Type 0 where
   pub text : List ℕ
   pub end : ℕ
-  pub plain : (k : ℕ) → k < length text → ¬ LineEnd (getD text k 0)
+  pub no-line-end : (k : ℕ) → k < length text → ¬ LineEnd (getD text k 0)
   pub ended : LineEnd end
   pub left : List ℕ
   pub is : l ≡ text ++ end ∷ left
@@ -105,7 +105,7 @@ comment-before {b} {l} {rest} {seen} q c =
       blanks = c .after .blanks;
       items =
           comment-item (35 ∷ c .text ++ c .end ∷ [])
-          (record { text = c .text; end = c .end; plain = c .plain; ended = c .ended; is = refl })
+          (record { text = c .text; end = c .end; no-line-end = c .no-line-end; ended = c .ended; is = refl })
           (c .after .items)
           refl;
       is = whole;
@@ -116,17 +116,17 @@ comment-before {b} {l} {rest} {seen} q c =
     whole = rw (q, c .is, c .after .is) (simp append-assoc)
 
 -- Of a byte and a list, that no byte ends a line.
-plain-more : {b : ℕ} (text : List ℕ) → ¬ LineEnd b → ((k : ℕ) → k < length text → ¬ LineEnd (getD text k 0)) → (k : ℕ)
+no-line-end-more : {b : ℕ} (text : List ℕ) → ¬ LineEnd b → ((k : ℕ) → k < length text → ¬ LineEnd (getD text k 0)) → (k : ℕ)
     → k < length (b ∷ text) → ¬ LineEnd (getD (b ∷ text) k 0)
-plain-more text p all zero m = p
-plain-more text p all (suc k) m = all k (omega arith)
+no-line-end-more text p all zero m = p
+no-line-end-more text p all (suc k) m = all k (omega arith)
 
 text-before : {b : ℕ} {l rest : List ℕ} {seen : Bool} → ¬ LineEnd b → CommentBefore l rest seen → CommentBefore (b ∷ l) rest seen
 text-before {b} p c =
     record {
       text = b ∷ c .text;
       end = c .end;
-      plain = plain-more (c .text) p (c .plain);
+      no-line-end = no-line-end-more (c .text) p (c .no-line-end);
       ended = c .ended;
       left = c .left;
       is = ap (λ (m : List ℕ). b ∷ m) (c .is);
@@ -154,7 +154,7 @@ mutual
           record {
             text = [];
             end = b;
-            plain = λ k m. absurd (omega arith);
+            no-line-end = λ k m. absurd (omega arith);
             ended = p;
             left = l;
             is = refl;

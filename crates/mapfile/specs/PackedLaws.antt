@@ -43,10 +43,10 @@ packed-at w l r k j h =
     rw (byte, place)
 
 -- It can be told of each crossing of the map whether it is in R.
-abbrev pub Told : ℕ → ℕ → (ℕ → ℕ → Type 0) → Type 0
-Told w h R = (x y : ℕ) → On w h x y → Dec (R x y)
+abbrev pub Tellable : ℕ → ℕ → (ℕ → ℕ → Type 0) → Type 0
+Tellable w h R = (x y : ℕ) → On w h x y → Dec (R x y)
 
-module _ (w h : ℕ) (R : ℕ → ℕ → Type 0) (told : Told w h R) (l k : List ℕ) (p : PackedRows w h R l) (q : PackedRows w h R k) where
+module _ (w h : ℕ) (R : ℕ → ℕ → Type 0) (told : Tellable w h R) (l k : List ℕ) (p : PackedRows w h R l) (q : PackedRows w h R k) where
   -- The two agree at each bit: at a crossing by R, and pad bits are 0.
   packed-same : (r x : ℕ) → r < h → x < rowBytes w * 8 → packedBit w l r x ≡ packedBit w k r x
   packed-same r x a b = go (decLt x w)

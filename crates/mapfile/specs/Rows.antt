@@ -25,7 +25,7 @@ use Rattle.mapfile.specs.File.{raw-letters, MapFile, FileRock, FileFault
 use Rattle.mapfile.specs.FileWorking.{Found, a-map, a-fault, fileFound, FileTold, file-told}
 use Rattle.mapfile.specs.RockLaws.{markers-of}
 use Rattle.mapfile.specs.Written.{Plain, PackedRows, Written}
-use Rattle.mapfile.specs.PackedLaws.{Told}
+use Rattle.mapfile.specs.PackedLaws.{Tellable}
 use Rattle.mapfile.specs.WrittenLaws.{written-one}
 use Rattle.mapfile.specs.Table.{Row, is-map, has-fault, is-written, Holds}
 
@@ -192,7 +192,7 @@ written-of w h rocks file e =
       is = same-is file _ (k .1);
     }
 
-rocks-told : (w h : ℕ) (rocks : List Place) → Told w h (RocksOn rocks)
+rocks-told : (w h : ℕ) (rocks : List Place) → Tellable w h (RocksOn rocks)
 rocks-told w h rocks x y o = test-dec (rockOf (markersOn rocks) x y) (of-rock (markersOn rocks) x y, rock-of (markersOn rocks) x y)
 
 -- The tests.

@@ -17,10 +17,10 @@ use Rattle.mapfile.specs.Written.{PackedRows, Written}
 use Rattle.mapfile.specs.FileLaws.{map-file-one}
 use Rattle.mapfile.specs.RockLaws.{markers-of}
 use Rattle.mapfile.specs.PlainLaws.{plain-one}
-use Rattle.mapfile.specs.PackedLaws.{Told, packed-one}
+use Rattle.mapfile.specs.PackedLaws.{Tellable, packed-one}
 
 -- One outcome: two files that writing may give are the same bytes.
-pub written-one : (w h : ℕ) (R : ℕ → ℕ → Type 0) → Told w h R → (file other : List ℕ) → Written w h R file → Written w h R other → file ≡ other
+pub written-one : (w h : ℕ) (R : ℕ → ℕ → Type 0) → Tellable w h R → (file other : List ℕ) → Written w h R file → Written w h R other → file ≡ other
 written-one w h R told file other p q =
     let width : p .width ≡ q .width = plain-one w (p .width) (q .width) (p .width-is) (q .width-is) in
     let height : p .height ≡ q .height = plain-one h (p .height) (q .height) (p .height-is) (q .height-is) in
@@ -53,7 +53,7 @@ module _ (w h : ℕ) (R : ℕ → ℕ → Type 0) (rows : List ℕ) where
         bit = λ r x a b. sheet-at w h (λ x r. packedBit w rows r x) x r (record { in-x = b; in-y = a });
       }
 
-  rows-rock : Told w h R → PackedRows w h R rows → (x y : ℕ) → FileRock w h rowBits x y ↔ (On w h x y × R x y)
+  rows-rock : Tellable w h R → PackedRows w h R rows → (x y : ℕ) → FileRock w h rowBits x y ↔ (On w h x y × R x y)
   unfolding rasterPlace rowBits
   rows-rock told p x y = (λ f. (f .on, go (f .on) (told x y (f .on)) (f .one)), λ t. record { on = t .0; one = here (t .0) ∙ rock (t .0) (t .1) })
     where
@@ -77,7 +77,7 @@ module _ (w h : ℕ) (R : ℕ → ℕ → Type 0) (rows : List ℕ) where
       go o (no m) e = absurd (omega (arith, here o, free o m, e))
 
 -- What is written is a map by the grammar, and its rocks are the map's.
-pub written-map : (w h : ℕ) (R : ℕ → ℕ → Type 0) → Told w h R → (file : List ℕ) → Sides w h → Written w h R file
+pub written-map : (w h : ℕ) (R : ℕ → ℕ → Type 0) → Tellable w h R → (file : List ℕ) → Sides w h → Written w h R file
     → (bits : List ℕ) × MapFile file w h bits × ((x y : ℕ) → (FileRock w h bits x y ↔ (On w h x y × R x y)))
 written-map w h R told file sides p = (
   rowBits w h R (p .rows),
@@ -105,7 +105,7 @@ pub record ReadBack (w h : ℕ) (R : ℕ → ℕ → Type 0) (width height : ℕ
 
 -- "Reading a written map ... gives the same crossings": by the grammar a file is one map at most,
 -- and what is written is that of the rocks.
-pub read-written : (w h : ℕ) (R : ℕ → ℕ → Type 0) → Told w h R → (file : List ℕ) → Sides w h → Written w h R file
+pub read-written : (w h : ℕ) (R : ℕ → ℕ → Type 0) → Tellable w h R → (file : List ℕ) → Sides w h → Written w h R file
     → (width height : ℕ) (bits : List ℕ) → MapFile file width height bits → ReadBack w h R width height bits
 read-written w h R told file sides p width height bits m =
     let k = written-map w h R told file sides p in

@@ -56,18 +56,18 @@ pub making-all : {w h y z x : ℕ} {u v : List ℕ} → Making w h y z u v x →
 making-all m l = record { size = m .size; made = λ a i. m .made a (omega arith); rest = m .rest }
 
 -- The first k rows made, counted from the edge.
-pub record Passed (w h : ℕ) (e : Bool) (u v : List ℕ) (k : ℕ) : Type 0 where
+pub record RowsMade (w h : ℕ) (e : Bool) (u v : List ℕ) (k : ℕ) : Type 0 where
   pub size : length v ≡ length u
   pub edge : (x : ℕ) → x < w → at v w x (nth e h 0) ≡ at u w x (nth e h 0)
   pub ran : (x j : ℕ) → x < w → suc j < k → at v w x (nth e h (suc j)) ≡ onward (at v w x (nth e h j)) (at u w x (nth e h (suc j)))
   pub ahead : (x j : ℕ) → x < w → k ≤ j → j < h → at v w x (nth e h j) ≡ at u w x (nth e h j)
 
-pub passed-edge : {w h : ℕ} {e : Bool} {u : List ℕ} → Passed w h e u u 1
-passed-edge = record { size = refl; edge = λ x l. refl; ran = λ x j l m. absurd (omega arith); ahead = λ x j l m i. refl }
+pub rows-made-edge : {w h : ℕ} {e : Bool} {u : List ℕ} → RowsMade w h e u u 1
+rows-made-edge = record { size = refl; edge = λ x l. refl; ran = λ x j l m. absurd (omega arith); ahead = λ x j l m i. refl }
 
-passed-more : {w h : ℕ} {e : Bool} {u v t : List ℕ} {k : ℕ} → 0 < k → k < h → Passed w h e u v k
-    → RowMade w h (nth e h k) (nth e h (k - 1)) v t → Passed w h e u t (k + 1)
-passed-more {w} {h} {e} {u} {v} {t} {k} some in-h p r =
+rows-made-more : {w h : ℕ} {e : Bool} {u v t : List ℕ} {k : ℕ} → 0 < k → k < h → RowsMade w h e u v k
+    → RowMade w h (nth e h k) (nth e h (k - 1)) v t → RowsMade w h e u t (k + 1)
+rows-made-more {w} {h} {e} {u} {v} {t} {k} some in-h p r =
     record {
       size = r .size ∙ p .size;
       edge = λ x l. other x 0 l (omega arith) (λ f. omega arith) ∙ p .edge x l;
@@ -97,13 +97,13 @@ passed-more {w} {h} {e} {u} {v} {t} {k} some in-h p r =
         ∙ ap (λ (n : ℕ). onward n (at u w x (nth e h (suc j)))) (sym (other x j l (omega arith) (λ f. omega arith)))
 
 -- The same, told of the rows that places k and k - 1 are; they are two.
-pub passed-at : {w h : ℕ} {e : Bool} {u v t : List ℕ} {k y z : ℕ} → 0 < k → k < h → Passed w h e u v k → Nth e h k y → Nth e h (k - 1) z
-    → RowMade w h y z v t → Passed w h e u t (k + 1)
-passed-at {w} {h} {v = v} {t = t} some in-h p m n r = passed-more some in-h p (moved (λ y z. RowMade w h y z v t) (m .is) (n .is) r)
+pub rows-made-at : {w h : ℕ} {e : Bool} {u v t : List ℕ} {k y z : ℕ} → 0 < k → k < h → RowsMade w h e u v k → Nth e h k y → Nth e h (k - 1) z
+    → RowMade w h y z v t → RowsMade w h e u t (k + 1)
+rows-made-at {w} {h} {v = v} {t = t} some in-h p m n r = rows-made-more some in-h p (moved (λ y z. RowMade w h y z v t) (m .is) (n .is) r)
 
 pub two-rows : {h : ℕ} {e : Bool} {k y z : ℕ} → 0 < k → k < h → Nth e h k y → Nth e h (k - 1) z → y ≢ z
 two-rows {h} {e} {k} some in-h m n q =
     let same : k ≡ k - 1 = nth-one e h k (k - 1) in-h (omega arith) (sym (m .is) ∙ q ∙ n .is) in omega arith
 
-pub passed-all : {w h : ℕ} {e : Bool} {u v : List ℕ} {k : ℕ} → Passed w h e u v k → h ≤ k → ColumnsRun w h e u v
-passed-all p l = record { size = p .size; edge = p .edge; ran = λ x j m i. p .ran x j m (omega arith) }
+pub rows-made-all : {w h : ℕ} {e : Bool} {u v : List ℕ} {k : ℕ} → RowsMade w h e u v k → h ≤ k → ColumnsRun w h e u v
+rows-made-all p l = record { size = p .size; edge = p .edge; ran = λ x j m i. p .ran x j m (omega arith) }

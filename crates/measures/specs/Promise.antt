@@ -9,7 +9,7 @@ use Rattle.field.specs.Workings.Sheet.{Marked}
 use Rattle.sheets.specs.Promise.{Fits}
 
 -- A sheet of the closed crossings and four sheets of the map's size.
-pub record Lent (w h : ℕ) (s e d f n : List ℕ) : Type 0 where
+pub record SheetsLent (w h : ℕ) (s e d f n : List ℕ) : Type 0 where
   pub fits : Fits w h s
   pub east : length e ≡ h * w
   pub south : length d ≡ h * w

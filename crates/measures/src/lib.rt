@@ -6,7 +6,7 @@ mod across; // across.rt: the running numbers along the columns, south and north
 mod along; // along.rt: the running number along a row, east and west
 mod each; // each.rt: what is done to every crossing by itself
 
-ghost use Rattle.measures.specs.Promise.{Lent, Measured};
+ghost use Rattle.measures.specs.Promise.{SheetsLent, Measured};
 
 // The distances of the whole map, one sheet for each way. Looking east or north the high edge comes
 // first, and west or south the low one.
@@ -19,7 +19,7 @@ pub fn measure(
     west: &mut [u8],
     north: &mut [u8],
 )
-    requires { ⌜ Lent w h (now s) (now east) (now south) (now west) (now north) ⌝ }
+    requires { ⌜ SheetsLent w h (now s) (now east) (now south) (now west) (now north) ⌝ }
     ensures { λ _. ⌜ Measured w h (now (s .entry)) (now (east .exit)) (now (south .exit)) (now (west .exit)) (now (north .exit)) ⌝ }
 {
     along::sheet(s, w, h, true, east);

@@ -6,14 +6,9 @@ use mathlib.Core.List.{List, [], _∷_, _++_}
 use Prim.Native.Nat.{ℕ, zero, suc, _+_, _*_, _-_, _<_, _≤_}
 use lib.Dec.{ltb}
 use lib.ListN.{length, getD}
-use Rattle.field.specs.Map.{Sides}
 use Rattle.field.specs.Workings.Sheet.{bit}
+use Rattle.sheets.specs.Promise.{Fits}
 use Rattle.mapfile.specs.Raster.{rowBytes}
-
--- A map within the limits, and a sheet of its size that marks the rocks.
-pub record Asked (w h : ℕ) (s : List ℕ) : Type 0 where
-  pub sides : Sides w h
-  pub size : length s ≡ h * w
 
 -- The sheet has the whole row of w crossings from the number `from` on.
 pub record RowIn (s : List ℕ) (from w : ℕ) : Type 0 where
@@ -31,7 +26,7 @@ pub record RowRoom (s : List ℕ) (w y : ℕ) (out : List ℕ) : Type 0 where
 
 -- The output has just the room for the map's rows.
 pub record RowsRoom (w h : ℕ) (s out : List ℕ) : Type 0 where
-  pub asked : Asked w h s
+  pub fits : Fits w h s
   pub room : length out ≡ h * rowBytes w
 
 -- The bit of column x of the row from the number `from` on: 1 where the sheet has a mark, 0 where

@@ -35,8 +35,8 @@ picture-one {file} {sheet} {sheet′} {w} {h} {w′} {h′} p q =
     let c : q .body ≡ p .body = sym (e .3) in
     (a, b, turned-one (p .turned) (rw (a, b, ← c) (q .turned)))
 
-pub fault-one : {file : List ℕ} {lent n m : ℕ} → PictureFault file lent n → PictureFault file lent m → n ≡ m
-fault-one {file} {lent} {n} {m} a b = let e : a-fault n ≡ a-fault m = sym (fault-seen a) ∙ fault-seen b in cc
+pub picture-fault-one : {file : List ℕ} {lent n m : ℕ} → PictureFault file lent n → PictureFault file lent m → n ≡ m
+picture-fault-one {file} {lent} {n} {m} a b = let e : a-fault n ≡ a-fault m = sym (fault-seen a) ∙ fault-seen b in cc
 
 pub fault-no-picture : {file sheet : List ℕ} {lent n w h : ℕ} → PictureFault file lent n → lent ≡ h * w → ¬ PictureFile file w h sheet
 fault-no-picture {file} {sheet} {lent} {n} {w} {h} f e p =

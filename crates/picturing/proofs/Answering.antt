@@ -29,7 +29,7 @@ use Rattle.picturefile.specs.Picture.{
 }
 use Rattle.picturefile.specs.WorkingLaws.{three-values}
 use Rattle.picturefile.specs.WrittenLaws.{written-one}
-use Rattle.packing.specs.Packing.{Asked}
+use Rattle.sheets.specs.Promise.{Fits}
 use Rattle.calls.specs.RuleLaws.{holds, sides-hold}
 use Rattle.calls.specs.PictureCalls.{not-written, not-read, WriteSheetCall, ReadSheetCall}
 use Rattle.calls.specs.declared.SheetWritten.{SheetWritten}
@@ -37,7 +37,7 @@ use Rattle.calls.specs.declared.SheetRead.{SheetRead}
 use Rattle.picturing.specs.Parts.{Puts, too-short, whole, picture-judged}
 
 -- A sheet of the map's size passes row 2.
-fits : {w h : ℕ} {sheet : List ℕ} → Asked w h sheet → (¬ (length sheet ≡ h * w)) ⊎ ⊥ → ⊥
+fits : {w h : ℕ} {sheet : List ℕ} → Fits w h sheet → (¬ (length sheet ≡ h * w)) ⊎ ⊥ → ⊥
 fits a (inl n) = n (a .size)
 fits a (inr z) = z
 
@@ -50,7 +50,7 @@ module _ {w h : ℕ} {sheet out : List ℕ} where
   write-no-sheet s n e =
       rw e (record { given = inr (λ f. f s, inl (inl n, refl)); kept = λ z. refl; refused = λ z. refl; done = λ z. absurd (omega arith) })
 
-  pub write-puts : {out′ : List ℕ} {r : SheetWritten} → Asked w h sheet → Puts w h sheet out out′ r → WriteSheetCall sheet w h out out′ r
+  pub write-puts : {out′ : List ℕ} {r : SheetWritten} → Fits w h sheet → Puts w h sheet out out′ r → WriteSheetCall sheet w h out out′ r
   write-puts a (too-short file p l s e) =
       rw (e, s)
       (record {

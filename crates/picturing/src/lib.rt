@@ -20,7 +20,7 @@ ghost use lib.ListN.{length};
 ghost use Rattle.field.specs.Map.{largest-value};
 ghost use Rattle.calls.specs.Rule.{Gives};
 ghost use Rattle.writer.specs.Digits.{digitsOf};
-ghost use Rattle.packing.specs.Packing.{Asked};
+ghost use Rattle.sheets.specs.Promise.{Fits};
 ghost use Rattle.calls.specs.PictureCalls.{not-written, not-read, WriteSheetCall, ReadSheetCall};
 ghost use Rattle.picturing.specs.Parts.{Puts, picture-judged};
 
@@ -47,7 +47,7 @@ fn write_largest(out: &mut [u8])
 // the north, each into its own part of the output. An output too short for them all is left as it
 // is, and so are bytes past the end.
 fn put(sheet: &[u8], w: usize, h: usize, out: &mut [u8]) -> SheetWritten
-    requires { ⌜ Asked w h (now sheet) ⌝ }
+    requires { ⌜ Fits w h (now sheet) ⌝ }
     ensures { λ r. ⌜ Puts w h (now (sheet .entry)) (now (out .entry)) (now (out .exit)) r ⌝ }
 {
     let a = writer::digit_count(w);

@@ -10,7 +10,7 @@ use lib.ListN.{length, take}
 use Rattle.field.specs.Map.{most-markers}
 use Rattle.field.specs.Refusals.{no-slot}
 use Rattle.mapfile.specs.File.{MapFile, markersOf, FileFault, NoSlot}
-use Rattle.mapfile.specs.FileLaws.{map-file-one, fault-one, fault-no-map}
+use Rattle.mapfile.specs.FileLaws.{map-file-one, file-fault-one, fault-no-map}
 use Rattle.reader.specs.Promise.{MapTaken, Reads}
 use Rattle.reader.specs.declared.Reading.{Reading}
 use Rattle.reader.specs.declared.Reading.the-variants.{Map, Refused}
@@ -48,7 +48,7 @@ module _ {file : List ℕ} {lent : ℕ} where
       over e (inr p) = omega (arith, a .counted, a .few)
 
   refused-one : {n m : ℕ} → Faulty file lent n → Faulty file lent m → n ≡ m
-  refused-one (inl f) (inl g) = fault-one f g
+  refused-one (inl f) (inl g) = file-fault-one f g
   refused-one (inl f) (inr o) = absurd (fault-no-map f (o .0 .map))
   refused-one (inr o) (inl g) = absurd (fault-no-map g (o .0 .map))
   refused-one (inr o) (inr p) = o .1 ∙ sym (p .1)

@@ -8,7 +8,7 @@ use Rattle.field.specs.declared.Marker.{Marker}
 use Rattle.field.specs.Map.{at}
 use Rattle.markers.specs.List.{slot}
 use Rattle.markers.specs.Laws.Rocks.{Stands, rock-stands, stands-rock}
-use Rattle.markers.specs.Laws.Stamping.{Passed, Stamping}
+use Rattle.markers.specs.Laws.Stamping.{StandsBefore, Stamping}
 use Rattle.records.specs.Promise.{StampedWith}
 
 -- Where the k-th marker stands.
@@ -30,7 +30,7 @@ stamping-end {w} {h} {count} {k} {list} {sheet} lent e s =
       };
     }
   where
-    stood : (x y : ℕ) → Passed (x-of list) (y-of list) k x y → Stands list count x y
+    stood : (x y : ℕ) → StandsBefore (x-of list) (y-of list) k x y → Stands list count x y
     stood x y f = record { place = f .place; below = omega (arith, f .below); x-is = f .x-is; y-is = f .y-is }
 
     marked : (x y : ℕ) → Stands list count x y → 0 < at sheet w x y

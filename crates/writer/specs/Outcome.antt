@@ -14,7 +14,8 @@ use Rattle.field.specs.Workings.Marks.{marked-dec}
 use Rattle.mapfile.specs.File.{MapFile, FileRock}
 use Rattle.mapfile.specs.Written.{Written}
 use Rattle.mapfile.specs.WrittenLaws.{written-one, written-map}
-use Rattle.writer.specs.Promise.{Asked, Writes}
+use Rattle.sheets.specs.Promise.{Fits}
+use Rattle.writer.specs.Promise.{Writes}
 use Rattle.writer.specs.declared.Wrote.{Wrote}
 use Rattle.writer.specs.declared.Wrote.the-variants.{Bytes, Short}
 
@@ -37,7 +38,7 @@ writes-one w h s out after other Short Short p q = (refl, p .same ∙ sym (q .sa
 
 -- "Reading a written map ... gives the same crossings": the bytes written are a map by the grammar,
 -- and its rocks are the sheet's marks.
-pub writes-map : (w h : ℕ) (s out after : List ℕ) (n : ℕ) → Asked w h s → Writes w h s out after (Bytes n)
+pub writes-map : (w h : ℕ) (s out after : List ℕ) (n : ℕ) → Fits w h s → Writes w h s out after (Bytes n)
     → (bits : List ℕ) × MapFile (take n after) w h bits × ((x y : ℕ) → (FileRock w h bits x y ↔ Marked s w h x y))
 writes-map w h s out after n asked p = (m .0, rw front (m .1), λ x y. (λ f. m .2 x y .0 f .1, λ k. m .2 x y .1 (k .on, k)))
   where

@@ -6,7 +6,6 @@ use lib.ListN.{length, drop}
 use Rattle.field.specs.Refusals.{success, short-output}
 use Rattle.field.specs.Workings.Sheet.{Marked}
 use Rattle.mapfile.specs.Written.{Written}
-pub use Rattle.packing.specs.Packing.{Asked}
 use Rattle.writer.specs.declared.Wrote.{Wrote}
 use Rattle.writer.specs.declared.Wrote.the-variants.{Bytes, Short}
 
@@ -17,7 +16,7 @@ wroteNumber (Bytes n) = success
 wroteNumber Short = short-output
 
 -- "The number of bytes written is handed back; bytes past the end stay."
-pub record Put (w h : ℕ) (s out : List ℕ) (n : ℕ) (after : List ℕ) : Type 0 where
+pub record BytesWritten (w h : ℕ) (s out : List ℕ) (n : ℕ) (after : List ℕ) : Type 0 where
   pub file : List ℕ
   pub written : Written w h (Marked s w h) file
   pub counted : n ≡ length file
@@ -32,5 +31,5 @@ pub record NoRoom (w h : ℕ) (s out after : List ℕ) : Type 0 where
   pub same : after ≡ out
 
 abbrev pub Writes : ℕ → ℕ → List ℕ → List ℕ → List ℕ → Wrote → Type 0
-Writes w h s out after (Bytes n) = Put w h s out n after
+Writes w h s out after (Bytes n) = BytesWritten w h s out n after
 Writes w h s out after Short = NoRoom w h s out after

@@ -5,7 +5,8 @@ ghost use mathlib.Core.Path.{_≡_};
 ghost use mathlib.Core.List.{_∷_, [], _++_};
 ghost use Prim.Native.Nat.{_≤_, _+_};
 ghost use lib.ListN.{length};
-ghost use Rattle.writer.specs.Promise.{Asked, Writes};
+ghost use Rattle.sheets.specs.Promise.{Fits};
+ghost use Rattle.writer.specs.Promise.{Writes};
 ghost use Rattle.writer.specs.Digits.{DigitCount, digitsOf, twoOf, headerOf};
 
 // What writing comes to: so many bytes, or an output too short for the whole file.
@@ -77,7 +78,7 @@ pub fn write_header(out: &mut [u8], letters: &[u8; 2], w: usize, a: usize, h: us
 // Writes the map whose rocks are marked on the sheet. Bytes past the end stay; an output too short
 // is left as it is.
 pub fn write(s: &[u8], w: usize, h: usize, out: &mut [u8]) -> Wrote
-    requires { ⌜ Asked w h (now s) ⌝ }
+    requires { ⌜ Fits w h (now s) ⌝ }
     ensures { λ r. ⌜ Writes w h (now (s .entry)) (now (out .entry)) (now (out .exit)) r ⌝ }
 {
     let a = digit_count(w);

@@ -1,20 +1,28 @@
 -- `write_stamped` meets its contract: each answer is the one of its case. Assumes nothing.
 use mathlib.Core.Path.{refl}
+use mathlib.Core.Logic.{inl, inr}
 use native.Mathlib.Omega.{arith}
 use borrow.Author.Needs.{needs}
 use Rattle.writer.specs.declared.Wrote.the-variants.{Bytes, Short}
-use Rattle.exchange.specs.Promise.{refused, shared, written}
+use Rattle.exchange.proofs.Answers.{rest-written}
 use Rattle.exchange.proofs.write_stamped.Statement.{statement}
 use Rattle.exchange.proofs.write_stamped.Tie as tie
 
 returns : tie.Need-returns
-returns c = refused (λ e. c .if1 .taken e) refl refl
+returns c =
+    record { given = inl (c .if1 .taken, refl); kept = λ _. refl; refused = λ _. refl; done = λ z. absurd (c .if1 .taken z) }
 
 count-marks-requires : tie.Need-count-marks-requires
 count-marks-requires c κs = search needs
 
 returns-2 : tie.Need-returns-2
-returns-2 c = shared (omega (arith, c .before .before .if1 .left)) (λ e. omega (arith, c .if2 .taken, c .before .count-marks .ensures, e)) refl refl
+returns-2 c =
+    record {
+      given = inr (λ f. f (omega (arith, c .before .before .if1 .left)), inl (λ e. omega (arith, c .if2 .taken, c .before .count-marks .ensures, e), refl));
+      kept = λ _. refl;
+      refused = λ _. refl;
+      done = λ z. absurd (omega arith);
+    }
 
 write-requires : tie.Need-write-requires
 write-requires c κs = c .before .before .before .before .before .before .pre (omega (arith, c .before .before .before .if1 .left))
@@ -32,7 +40,7 @@ returns-3 : tie.Need-returns-3
 returns-3 c =
     let wrote = c .before .before .before .before .before in
     let asked = wrote .before .before in
-    written (Bytes _) (omega (arith, asked .before .before .if1 .left)) (omega (arith, asked .if2 .left, asked .before .count-marks .ensures)) (rw (c .before .wrote .given .1) at (wrote .write .ensures)) refl
+    rest-written (Bytes _) (omega (arith, asked .before .before .if1 .left)) (omega (arith, asked .if2 .left, asked .before .count-marks .ensures)) (rw (c .before .wrote .given .1) at (wrote .write .ensures))
 
 same-length-2 : tie.Need-same-length-2
 same-length-2 c = search needs
@@ -41,7 +49,7 @@ returns-4 : tie.Need-returns-4
 returns-4 c =
     let wrote = c .before .before .before .before in
     let asked = wrote .before .before in
-    written Short (omega (arith, asked .before .before .if1 .left)) (omega (arith, asked .if2 .left, asked .before .count-marks .ensures)) (rw (c .enum-told .given .1) at (wrote .write .ensures)) refl
+    rest-written Short (omega (arith, asked .before .before .if1 .left)) (omega (arith, asked .if2 .left, asked .before .count-marks .ensures)) (rw (c .enum-told .given .1) at (wrote .write .ensures))
 
 pub write-stamped-spec : {M : Type 1} → statement M
 write-stamped-spec =

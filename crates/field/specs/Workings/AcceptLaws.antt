@@ -56,7 +56,7 @@ has-dec {w} {h} {l} {p} k a b = go (ℕ-discrete a (k .x)) (ℕ-discrete b (k .y
 
 module _ (w h : ℕ) (C : ℕ → ℕ → Type 0) (sx sy dx dy : ℕ) (l : List ℕ) where
   -- No reason applies at p, reason by reason.
-  pub record Clear (p : ℕ) : Type 0 where
+  pub record NoReason (p : ℕ) : Type 0 where
     pub stopped : ¬ WentOn w h dx dy l p
     pub started : ¬ WrongStart w h sx sy l p
     pub on-map : ¬ OffTheMap w h l p
@@ -65,8 +65,8 @@ module _ (w h : ℕ) (C : ℕ → ℕ → Type 0) (sx sy dx dy : ℕ) (l : List 
     pub closer : ¬ NotNearer w h dx dy l p
     pub arrived : ¬ EndedEarly w h dx dy l p
 
-  pub sound-clear : {p : ℕ} → Sound w h C sx sy dx dy l p → Clear p
-  sound-clear g =
+  pub sound-no-reason : {p : ℕ} → Sound w h C sx sy dx dy l p → NoReason p
+  sound-no-reason g =
       let a = past (omega arith) g in
       let b = past (omega arith) (a .1) in
       let c = past (omega arith) (b .1) in
@@ -76,13 +76,13 @@ module _ (w h : ℕ) (C : ℕ → ℕ → Type 0) (sx sy dx dy : ℕ) (l : List 
       let k = past (omega arith) (f .1) in
       record { stopped = a .0; started = b .0; on-map = c .0; free = d .0; near = e .0; closer = f .0; arrived = k .0 }
 
-  pub clear-sound : {p : ℕ} → Clear p → Sound w h C sx sy dx dy l p
-  clear-sound k =
+  pub no-reason-sound : {p : ℕ} → NoReason p → Sound w h C sx sy dx dy l p
+  no-reason-sound k =
       inr (k .stopped, inr (k .started, inr (k .on-map, inr (k .free, inr (k .near, inr (k .closer, inr (k .arrived, refl)))))))
 
   -- What is not off the map is a crossing of it.
-  clear-has : {p : ℕ} → Clear p → p < length l → Somewhere w h l p
-  clear-has {p} k b = go (decLt (getD l p 0) (h * w))
+  no-reason-has : {p : ℕ} → NoReason p → p < length l → Somewhere w h l p
+  no-reason-has {p} k b = go (decLt (getD l p 0) (h * w))
     where
       go : Dec (getD l p 0 < h * w) → Somewhere w h l p
       go (yes m) = has-some w h l p b m
@@ -92,8 +92,8 @@ module _ (w h : ℕ) (C : ℕ → ℕ → Type 0) (sx sy dx dy : ℕ) (l : List 
           (record { in-list = b; none = λ x y s. omega (arith, s .is, number-lt w h x y (s .on)) }))
 
   module _ (A : Accepted w h C sx sy dx dy l) where
-    clear : (p : ℕ) → Clear p
-    clear p = sound-clear (A p)
+    clear : (p : ℕ) → NoReason p
+    clear p = sound-no-reason (A p)
 
     -- The crossing after (x, y), which is not d, is an open neighbour one hop nearer d.
     record Onward (p x y : ℕ) : Type 0 where
@@ -126,7 +126,7 @@ module _ (w h : ℕ) (C : ℕ → ℕ → Type 0) (sx sy dx dy : ℕ) (l : List 
 
     onward : {p x y : ℕ} → Has w h l p x y → suc p < length l → Onward p x y
     onward {p} s m =
-        let k = clear-has (clear (suc p)) m in
+        let k = no-reason-has (clear (suc p)) m in
         let t : Hop w h l (suc p) _ _ (k .x) (k .y) = record { before = p; next = omega arith; from = s; to = k .here } in
         record { a = k .x; b = k .y; here = k .here; near = near-next t; closer = one-nearer (near-next t) (closer-next t) }
 
@@ -199,7 +199,7 @@ module _ (w h : ℕ) (C : ℕ → ℕ → Type 0) (sx sy dx dy : ℕ) (l : List 
         go (no m) = absurd (clear 0 .arrived (record { past = omega arith; never = λ q k. omega (arith, k .in-list) }))
 
     accepted-start : Has w h l 0 sx sy
-    accepted-start = go (has-dec (clear-has (clear 0) accepted-long) sx sy)
+    accepted-start = go (has-dec (no-reason-has (clear 0) accepted-long) sx sy)
       where
         go : Dec (Has w h l 0 sx sy) → Has w h l 0 sx sy
         go (yes k) = k

@@ -15,8 +15,8 @@ use Rattle.field.specs.Workings.AssuredLaws.{open-looks}
 use Rattle.field.specs.Workings.HopLaws.{ByRow, ByColumn, permitted-which, permitted-other, answers-one, row-permitted, column-permitted}
 
 -- One of the two tests passes, and (a, b) is where its hop leads.
-abbrev pub Told : List ℕ → ℕ → ℕ → ℕ → ℕ → ℕ → ℕ → ℕ → ℕ → Type 0
-Told s w h hx hy x y a b =
+abbrev pub HopTested : List ℕ → ℕ → ℕ → ℕ → ℕ → ℕ → ℕ → ℕ → ℕ → Type 0
+HopTested s w h hx hy x y a b =
     (ByRow hx x y a b × (eastWestOf s w h hx x y ≡ true)) ⊎ (ByColumn hy x y a b × (northSouthOf s w h hy x y ≡ true))
 
 module _ (w h : ℕ) (C : ℕ → ℕ → Type 0) (s : List ℕ) (D : Draws w h C s) (hx hy x y : ℕ) where
@@ -30,14 +30,14 @@ module _ (w h : ℕ) (C : ℕ → ℕ → Type 0) (s : List ℕ) (D : Draws w h 
   north-south-permitted = Iff·trans (Iff·symm column-permitted) (off-looks _ (open-looks w h C s D x (hopTo y hy)) y hy)
 
   -- The hops that the two tests tell are the permitted ones.
-  pub permitted-looks : (a b : ℕ) → (Permitted w h C hx hy x y a b ↔ Told s w h hx hy x y a b)
+  pub permitted-looks : (a b : ℕ) → (Permitted w h C hx hy x y a b ↔ HopTested s w h hx hy x y a b)
   permitted-looks a b = (λ p. told p (permitted-which p), holds)
     where
-      told : Permitted w h C hx hy x y a b → ByRow hx x y a b ⊎ ByColumn hy x y a b → Told s w h hx hy x y a b
+      told : Permitted w h C hx hy x y a b → ByRow hx x y a b ⊎ ByColumn hy x y a b → HopTested s w h hx hy x y a b
       told p (inl e) = inl (e, east-west-permitted .0 (rw (e .0, e .1) at p))
       told p (inr e) = inr (e, north-south-permitted .0 (rw (e .0, e .1) at p))
 
-      holds : Told s w h hx hy x y a b → Permitted w h C hx hy x y a b
+      holds : HopTested s w h hx hy x y a b → Permitted w h C hx hy x y a b
       holds (inl (e, t)) = rw (e .0, e .1) (east-west-permitted .1 t)
       holds (inr (e, t)) = rw (e .0, e .1) (north-south-permitted .1 t)
 
@@ -45,14 +45,14 @@ module _ (w h : ℕ) (C : ℕ → ℕ → Type 0) (s : List ℕ) (D : Draws w h 
   row-alone : northSouthOf s w h hy x y ≡ false → (a b : ℕ) → Permitted w h C hx hy x y a b → ByRow hx x y a b
   row-alone f a b p = go (permitted-looks a b .0 p)
     where
-      go : Told s w h hx hy x y a b → ByRow hx x y a b
+      go : HopTested s w h hx hy x y a b → ByRow hx x y a b
       go (inl (e, t)) = e
       go (inr (e, t)) = absurd (true≢false (sym t ∙ f))
 
   column-alone : eastWestOf s w h hx x y ≡ false → (a b : ℕ) → Permitted w h C hx hy x y a b → ByColumn hy x y a b
   column-alone f a b p = go (permitted-looks a b .0 p)
     where
-      go : Told s w h hx hy x y a b → ByColumn hy x y a b
+      go : HopTested s w h hx hy x y a b → ByColumn hy x y a b
       go (inl (e, t)) = absurd (true≢false (sym t ∙ f))
       go (inr (e, t)) = e
 

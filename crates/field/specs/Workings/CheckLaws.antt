@@ -16,7 +16,7 @@ use Rattle.field.specs.Reasons.{wrong-start, is-closed}
 use Rattle.field.specs.Checks.{Has, WentOn, Finds, at-fault}
 use Rattle.field.specs.Workings.Tests.{and-split, and-both, cond-cases}
 use Rattle.field.specs.Workings.Sheet.{Draws}
-use Rattle.field.specs.Workings.AcceptLaws.{has-one, Clear, clear-sound}
+use Rattle.field.specs.Workings.AcceptLaws.{has-one, NoReason, no-reason-sound}
 use Rattle.field.specs.Workings.Checking.{found, stepOf, checkFrom, checkOf}
 use Rattle.field.specs.Workings.StepLaws.{stepped}
 use Rattle.field.specs.Workings.FaultLaws.{Reached, ends-there, ends-short, ends-early, goes-on, decided}
@@ -91,7 +91,7 @@ module _ (w h : ℕ) (C : ℕ → ℕ → Type 0) (sx sy dx dy : ℕ) (l : List 
               some = omega arith;
             })
 
-        clear : Has w h l 0 sx sy → ¬ C sx sy → Clear w h C sx sy dx dy l 0
+        clear : Has w h l 0 sx sy → ¬ C sx sy → NoReason w h C sx sy dx dy l 0
         clear k c =
             record {
               stopped = not-on;
@@ -105,7 +105,7 @@ module _ (w h : ℕ) (C : ℕ → ℕ → Type 0) (sx sy dx dy : ℕ) (l : List 
 
         reached : Has w h l 0 sx sy → ¬ C sx sy → Reached w h C sx sy dx dy l 0 sx sy
         reached k c =
-            record { here = k; sound = λ q b. rw (zero-is q b) (clear-sound w h C sx sy dx dy l (clear k c)) }
+            record { here = k; sound = λ q b. rw (zero-is q b) (no-reason-sound w h C sx sy dx dy l (clear k c)) }
           where
             zero-is : (q : ℕ) → q < 0 + 1 → q ≡ 0
             zero-is q b = omega arith

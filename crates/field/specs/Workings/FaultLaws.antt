@@ -17,7 +17,7 @@ use Rattle.field.specs.Rule.{Gives}
 use Rattle.field.specs.Reasons.{no-fault, ended-early, went-on}
 use Rattle.field.specs.Checks.{reasons, Has, Hop, WrongStart, OffTheMap, IsClosed, NotNeighbour, EndedEarly, WentOn, Sound, Finds, accepted, at-fault}
 use Rattle.field.specs.Workings.Tests.{cond-cases}
-use Rattle.field.specs.Workings.AcceptLaws.{has-one, Clear, sound-clear, clear-sound}
+use Rattle.field.specs.Workings.AcceptLaws.{has-one, NoReason, sound-no-reason, no-reason-sound}
 use Rattle.field.specs.Workings.Checking.{found}
 use Rattle.field.specs.Workings.StepLaws.{Numbers, goes, far, back, Stepped, outside, shut, free}
 
@@ -35,12 +35,12 @@ module _ (w h : ℕ) (C : ℕ → ℕ → Type 0) (sx sy dx dy : ℕ) (l : List 
       go (yes e) = has-one (subst (λ (j : ℕ). Has w h l j dx dy) e k) (r .here)
       go (no f) =
           absurd
-          (sound-clear w h C sx sy dx dy l (r .sound p (omega arith)) .stopped
+          (sound-no-reason w h C sx sy dx dy l (r .sound p (omega arith)) .stopped
           (record { in-list = r .here .in-list; arrival = q; earlier = omega arith; there = k }))
 
   -- Past the list's end nothing is at fault once d was reached.
-  past-clear : (p q : ℕ) → Has w h l q dx dy → length l ≤ p → Clear w h C sx sy dx dy l p
-  past-clear p q k b =
+  past-no-reason : (p q : ℕ) → Has w h l q dx dy → length l ≤ p → NoReason w h C sx sy dx dy l p
+  past-no-reason p q k b =
       record {
         stopped = λ f. omega (arith, f .in-list);
         started = λ f. omega (arith, f .in-list);
@@ -57,7 +57,7 @@ module _ (w h : ℕ) (C : ℕ → ℕ → Type 0) (sx sy dx dy : ℕ) (l : List 
     where
       go : (q : ℕ) → Dec (q < p + 1) → Sound w h C sx sy dx dy l q
       go q (yes b) = r .sound q b
-      go q (no b) = clear-sound w h C sx sy dx dy l (past-clear q p (rw (← t .0, ← t .1) (r .here)) (omega arith))
+      go q (no b) = no-reason-sound w h C sx sy dx dy l (past-no-reason q p (rw (← t .0, ← t .1) (r .here)) (omega arith))
 
   pub ends-short : (p : ℕ) → ((q : ℕ) → q < p → Sound w h C sx sy dx dy l q) → length l ≡ p → ((q : ℕ) → ¬ Has w h l q dx dy)
       → Finds w h C sx sy dx dy l (found ended-early p)
@@ -135,7 +135,7 @@ module _ (w h : ℕ) (C : ℕ → ℕ → Type 0) (sx sy dx dy : ℕ) (l : List 
     onward : {a c : ℕ} → Numbers w h n a c → ¬ C a c → Near x y a c → dist a c dx dy < dist x y dx dy → Reached (p + 1) a c
     onward {a} {c} k m i j = record { here = has k; sound = λ q b. go q (ℕ-discrete q (p + 1)) b }
       where
-        clear : Clear w h C sx sy dx dy l (p + 1)
+        clear : NoReason w h C sx sy dx dy l (p + 1)
         clear =
             record {
               stopped = not-on;
@@ -148,7 +148,7 @@ module _ (w h : ℕ) (C : ℕ → ℕ → Type 0) (sx sy dx dy : ℕ) (l : List 
             }
 
         go : (q : ℕ) → Dec (q ≡ p + 1) → q < p + 1 + 1 → Sound w h C sx sy dx dy l q
-        go q (yes e) b = rw e (clear-sound w h C sx sy dx dy l clear)
+        go q (yes e) b = rw e (no-reason-sound w h C sx sy dx dy l clear)
         go q (no f) b = r .sound q (omega arith)
 
     -- A reason other than those of an end, at this number.

@@ -11,7 +11,7 @@ use Rattle.field.specs.Drives.{Drive, last, next, ShortestDrive}
 use Rattle.field.specs.Checks.{Has, Hop, WrongStart, OffTheMap, IsClosed, NotNeighbour, NotNearer, EndedEarly, WentOn, Accepted}
 use Rattle.field.specs.Workings.GridLaws.{dist-none, dist-detour}
 use Rattle.field.specs.Workings.DriveLaws.{drive-from, drive-open, drive-open-end, drive-head, drive-end, drive-long, drive-split, drive-opens}
-use Rattle.field.specs.Workings.AcceptLaws.{Clear, clear-sound, has-one}
+use Rattle.field.specs.Workings.AcceptLaws.{NoReason, no-reason-sound, has-one}
 
 module _ (w h : ℕ) (C : ℕ → ℕ → Type 0) (sx sy dx dy : ℕ) (l : List ℕ) (D : ShortestDrive w h C sx sy dx dy l) where
   -- What is left of the drive at position p.
@@ -83,7 +83,7 @@ module _ (w h : ℕ) (C : ℕ → ℕ → Type 0) (sx sy dx dy : ℕ) (l : List 
   nearer : {p a b x y : ℕ} → Hop w h l p a b x y → dist x y dx dy < dist a b dx dy
   nearer s = omega (arith, rest (s .from) .hops, rest (s .to) .hops, s .next)
 
-  clear : (p : ℕ) → Clear w h C sx sy dx dy l p
+  clear : (p : ℕ) → NoReason w h C sx sy dx dy l p
   clear p =
       record {
         stopped = λ f. omega (arith, only-last (f .there), f .earlier, f .in-list);
@@ -96,4 +96,4 @@ module _ (w h : ℕ) (C : ℕ → ℕ → Type 0) (sx sy dx dy : ℕ) (l : List 
       }
 
   pub shortest-accepted : Accepted w h C sx sy dx dy l
-  shortest-accepted p = clear-sound w h C sx sy dx dy l (clear p)
+  shortest-accepted p = no-reason-sound w h C sx sy dx dy l (clear p)

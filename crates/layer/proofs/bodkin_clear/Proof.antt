@@ -1,12 +1,13 @@
 -- `bodkin_clear` meets its contract: a walk of its code by hand. The list is lent as `&` to `seek`,
 -- the refusal is told, and where there is none the list is lent on to `records::clear`.
-use Rattle.walks.specs.Prelude.{true, false, _≡_, refl, List, [], _∷_, none, some as held, ℕ, _<_, _^_, URA, fullShare, length, lit<, named, w8, w16, w64, Val, vint, SProp, ent}
+use Rattle.walks.specs.Prelude.{true, false, _≡_, refl, sym, subst, _∙_, List, [], _∷_, none, some as held, ℕ, _<_, _^_, URA, fullShare, length, lit<, named, w8, w16, w64, Val, vint, SProp, ent}
 use Rattle.walks.specs.Prelude.{emp, id⊢, Lft, Share, GName, ftrue, flft, Memory, Routine, Heap, WpFn, Tables, Atoms, Fun, factI, givenOf, tables, tablesOf, fmOf, Given, Item, ‵, _⊛_, ⋆}
 use Rattle.walks.specs.Prelude.{_$_, _∵_, !, qed, by, move, split, join, look, init, stop, from, lit, bin, and-then, no-more, land, returns, agg, owns, uint-vals, uint-tells, uint-makes, u16}
 use Rattle.walks.specs.Prelude.{usize, RefT, sliceVal, MutSlice, Room, slice-vals, mut-slice-tells, nothing, Clauses, Vals, onEntry, Meets, tripleOf, Triple, entered, cited, var, sets, relends, enters, leaves, unless, gives, called}
 use Rattle.walks.specs.Prelude.{sliceAt, mutOwn, lends, takes-back, shows-on, has-shown, says-last, Promised, asked-nothing, meets, takes, hands, hears, ends-with}
 use types.Kit.{drop}
 use denote.Struct.Laws as LL
+use denote.Enum.Laws as EL
 use Rattle.field.specs.declared.Marker.{Marker}
 use Rattle.field.proofs.Marker as T
 use Rattle.records.specs.Promise.{Clears}
@@ -16,13 +17,17 @@ use Rattle.records.proofs.clear.Symbol.{name as #clear}
 use Rattle.records.proofs.clear.Met as clear-thm
 use Rattle.calls.specs.Rules
 use Rattle.calls.specs.Rules.{Gives, lentMap}
-use Rattle.judging.specs.Judging.{clear-judged}
-use Rattle.layer.specs.Prepared.{found-table}
+use Rattle.judging.specs.declared.Sought.{Sought}
+use Rattle.judging.proofs.Sought as S
+use Rattle.judging.proofs.Sought.Laws as S′
+use Rattle.judging.specs.Judging.{clearNumber}
+use Rattle.layer.specs.Prepared.{Seeks}
 use Rattle.calls.specs.Calls.{ClearCall}
 use Rattle.calls.proofs.Counted as R
 use Rattle.calls.proofs.Counted.Laws as R′
 use Rattle.judging.proofs.Told.{is-zero, not-zero}
 use Rattle.layer.proofs.Seeking.{clear-gives, clear-used}
+use Rattle.layer.proofs.Findings.{found-value, found-is, found-typed}
 use Rattle.layer.proofs.Listing.{counted, counted-value, IsCounted, counted-is, counted-typed, clear-refused, clear-may, clear-done}
 use Rattle.layer.proofs.seek as seek
 use Rattle.layer.proofs.seek.Symbol as seek-def
@@ -84,8 +89,8 @@ module _ {M : Type 1} (𝓤 : URA M) (H : Heap 𝓤) (A : Atoms 𝓤) (W : Given
   abbrev JudgedC : Clauses 𝓤 judged.ended
   JudgedC = judged.clauses 𝓤 H A mem run
 
-  abbrev to-judged : ℕ → Promised 𝓤 H A judged.ended JudgedC .Ghost
-  to-judged found = ((tt, tt, tt, (found, tt), (vint w8 found ∷ [], tt)), tt)
+  abbrev to-judged : Sought → Promised 𝓤 H A judged.ended JudgedC .Ghost
+  to-judged found = ((tt, tt, tt, (found, tt), (found-value found ∷ [], tt)), tt)
 
   abbrev ClearC : Clauses 𝓤 clear.ended
   ClearC = clear.clauses 𝓤 H A mem run
@@ -111,16 +116,16 @@ module _ {M : Type 1} (𝓤 : URA M) (H : Heap 𝓤) (A : Atoms 𝓤) (W : Given
         shows-on ! tt T.the-row i o ys (vlist ∷ []) (λ known ν δ. nothing ! $ move ! (1 ∷ 0 ∷ []) $ join ! $
         hands W seek.ended SeekC (to-seek ν δ) (true ∷ false ∷ false ∷ false ∷ false ∷ []) (‵ (flft (ν ∷ []) fullShare) ⊛ ‵ ftrue) refl
         ((num, (refl, fc)), ((num, (refl, fw)), ((num, (refl, fh)), ((num16, (refl, fi)), tt)))) (id⊢ 𝓤 (emp 𝓤)) $
-        called ! (fmOf 𝓤 H (W .laws) 𝓣) seek.ended SeekC known-seek (to-seek ν δ) (‵ (flft (ν ∷ []) fullShare) ⊛ ‵ ftrue) refl (vint w8) (uint-tells w8)
-        (λ r _. Gives (found-table (lentMap ys count w h) id) r) (λ _ _. refl)
+        called ! (fmOf 𝓤 H (W .laws) 𝓣) seek.ended SeekC known-seek (to-seek ν δ) (‵ (flft (ν ∷ []) fullShare) ⊛ ‵ ftrue) refl found-value (EL.tells S.the-type S′.the-laws)
+        (λ r _. Seeks (lentMap ys count w h) id r) (λ _ _. refl)
         (and-then ! (var ! 12 refl) (and-then ! (var ! 4 refl) (and-then ! (var ! 5 refl) (and-then ! (var ! 6 refl) (and-then ! (var ! 7 refl) (no-more !))))))
-        (λ found _ sought ff. move ! (1 ∷ []) $ drop ! $ split ! $ move ! (1 ∷ []) $ drop ! $ has-shown ! tt T.the-row i o ys (vlist ∷ []) known ν $
-        land ! (from ! (stop !)) (init ! 8 refl (tt, record { fits = ff .1 })) $
+        (λ found _ sought _. move ! (1 ∷ []) $ drop ! $ split ! $ move ! (1 ∷ []) $ drop ! $ has-shown ! tt T.the-row i o ys (vlist ∷ []) known ν $
+        land ! (from ! (stop !)) (init ! 8 refl (found-typed 𝓤 H A W found)) $
         -- the refusal. [list; κ; the locals]
-        nothing ! $ hands W judged.ended JudgedC (to-judged found) (false ∷ []) (‵ ftrue) refl ((uint-makes 𝓤 H A W w8, ff), tt) (id⊢ 𝓤 (emp 𝓤)) $
-        called ! (fmOf 𝓤 H (W .laws) 𝓣) judged.ended JudgedC known-judged (to-judged found) (‵ ftrue) refl (vint w8) (uint-tells w8) (λ r _. Gives (clear-judged found) r) (λ _ _. refl)
+        nothing ! $ hands W judged.ended JudgedC (to-judged found) (false ∷ []) (‵ ftrue) refl ((EL.makes S.the-type S′.the-plain 𝓤 H A, found-is found), tt) (id⊢ 𝓤 (emp 𝓤)) $
+        called ! (fmOf 𝓤 H (W .laws) 𝓣) judged.ended JudgedC known-judged (to-judged found) (‵ ftrue) refl (vint w8) (uint-tells w8) (λ r _. r ≡ clearNumber found) (λ _ _. refl)
         (and-then ! (var ! 9 refl) (no-more !))
-        (λ n _ e fn. let table : Gives (Rules.clear-table (lentMap ys count w h) id) n = clear-gives (lentMap ys count w h) id found sought n e in
+        (λ n _ e fn. let table : Gives (Rules.clear-table (lentMap ys count w h) id) n = subst (Gives (Rules.clear-table (lentMap ys count w h) id)) (sym e) (clear-gives (lentMap ys count w h) id found sought) in
         drop ! $ drop ! $ land ! (from ! (stop !)) (init ! 9 refl (tt, record { fits = fn .1 })) $
         sets ! (bin ! (var ! 9 refl) (lit ! tt) tt) 13 refl (tt, tt) $
         unless ! (var ! 13 refl)
@@ -129,7 +134,7 @@ module _ {M : Type 1} (𝓤 : URA M) (H : Heap 𝓤) (A : Atoms 𝓤) (W : Given
         leaves ! (Δ ys) (held _ ∷ held _ ∷ held _ ∷ held _ ∷ held _ ∷ held _ ∷ held _ ∷ held _ ∷ none ∷ held _ ∷ held _ ∷ held _ ∷ [])
         (exits n 0 ys is refl (clear-refused (lentMap ys count w h) id n table (not-zero n test))))
         (λ test. let z : n ≡ 0 = is-zero n test in
-        let may = clear-may (lentMap ys count w h) id n table z (clear-used (lentMap ys count w h) id found sought n e z) in
+        let may = clear-may (lentMap ys count w h) id n table z (clear-used (lentMap ys count w h) id found sought (sym e ∙ z)) in
         -- clear, with the list lent on
         relends ! 3 14 15 refl refl refl refl refl (tt, tt) refl refl refl (tt, (tt, (record { fits = room .0 }, tt))) $
         lends ! tt T.the-row i o ys (vlist ∷ []) (λ known ν δ. nothing ! $ move ! (1 ∷ 0 ∷ []) $ join ! $

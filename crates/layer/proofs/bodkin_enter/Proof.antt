@@ -7,6 +7,7 @@ use Rattle.walks.specs.Prelude.{uint-tells, uint-makes, u16, usize, RefT, slice
 use Rattle.walks.specs.Prelude.{leaves, unless, gives, called, mach, marker-typed, sliceAt, mutOwn, lends, takes-back, shows-on, has-shown, says-last, Promised, asked-nothing, meets, takes, hands, hears, ends-with}
 use types.Kit.{drop}
 use denote.Struct.Laws as LL
+use denote.Enum.Laws as EL
 use Rattle.field.specs.declared.Marker.{Marker}
 use Rattle.field.proofs.Marker as T
 use Rattle.field.proofs.Marker.Laws as T′
@@ -18,13 +19,17 @@ use Rattle.records.proofs.enter.Symbol.{name as #enter}
 use Rattle.records.proofs.enter.Met as enter-thm
 use Rattle.calls.specs.Rules
 use Rattle.calls.specs.Rules.{Gives, lentMap}
-use Rattle.judging.specs.Judging.{enter-judged}
-use Rattle.layer.specs.Prepared.{found-table}
+use Rattle.judging.specs.declared.Sought.{Sought}
+use Rattle.judging.proofs.Sought as S
+use Rattle.judging.proofs.Sought.Laws as S′
+use Rattle.judging.specs.Judging.{EnterJudged}
+use Rattle.layer.specs.Prepared.{Seeks}
 use Rattle.calls.specs.Calls.{EnterCall}
 use Rattle.calls.proofs.Counted as R
 use Rattle.calls.proofs.Counted.Laws as R′
 use Rattle.judging.proofs.Told.{is-zero, not-zero}
 use Rattle.layer.proofs.Seeking.{enter-gives}
+use Rattle.layer.proofs.Findings.{found-value, found-is, found-typed}
 use Rattle.layer.proofs.Listing.{counted, counted-value, IsCounted, counted-is, counted-typed, enter-refused, enter-fits, enter-may, enter-done}
 use Rattle.layer.proofs.seek as seek
 use Rattle.layer.proofs.seek.Symbol as seek-def
@@ -90,14 +95,14 @@ module _ {M : Type 1} (𝓤 : URA M) (H : Heap 𝓤) (A : Atoms 𝓤) (W : Given
   abbrev JudgedC : Clauses 𝓤 judged.ended
   JudgedC = judged.clauses 𝓤 H A mem run
 
-  abbrev to-judged : ℕ → Promised 𝓤 H A judged.ended JudgedC .Ghost
+  abbrev to-judged : Sought → Promised 𝓤 H A judged.ended JudgedC .Ghost
   to-judged found = (
     (
       tt,
       tt,
       tt,
       (found, (w, (h, (id, (x, (y, (count, (length ys, tt)))))))),
-      (vint w8 found ∷ [], (vint w64 w ∷ [], (vint w64 h ∷ [], (vint w16 id ∷ [], (vint w64 x ∷ [], (vint w64 y ∷ [], (vint w64 count ∷ [], (vint w64 (length ys) ∷ [], tt)))))))),
+      (found-value found ∷ [], (vint w64 w ∷ [], (vint w64 h ∷ [], (vint w16 id ∷ [], (vint w64 x ∷ [], (vint w64 y ∷ [], (vint w64 count ∷ [], (vint w64 (length ys) ∷ [], tt)))))))),
     ),
     tt,
   )
@@ -133,17 +138,17 @@ module _ {M : Type 1} (𝓤 : URA M) (H : Heap 𝓤) (A : Atoms 𝓤) (W : Given
         shows-on ! tt T.the-row i o ys (vlist ∷ []) (λ known ν δ. nothing ! $ move ! (1 ∷ 0 ∷ []) $ join ! $
         hands W seek.ended SeekC (to-seek ν δ) (true ∷ false ∷ false ∷ false ∷ false ∷ []) (‵ (flft (ν ∷ []) fullShare) ⊛ ‵ ftrue) refl
         ((num, (refl, fc)), ((num, (refl, fw)), ((num, (refl, fh)), ((num16, (refl, fi)), tt)))) (id⊢ 𝓤 (emp 𝓤)) $
-        called ! (fmOf 𝓤 H (W .laws) 𝓣) seek.ended SeekC known-seek (to-seek ν δ) (‵ (flft (ν ∷ []) fullShare) ⊛ ‵ ftrue) refl (vint w8) (uint-tells w8)
-        (λ r _. Gives (found-table (lentMap ys count w h) id) r) (λ _ _. refl)
+        called ! (fmOf 𝓤 H (W .laws) 𝓣) seek.ended SeekC known-seek (to-seek ν δ) (‵ (flft (ν ∷ []) fullShare) ⊛ ‵ ftrue) refl found-value (EL.tells S.the-type S′.the-laws)
+        (λ r _. Seeks (lentMap ys count w h) id r) (λ _ _. refl)
         (and-then ! (var ! 15 refl) (and-then ! (var ! 4 refl) (and-then ! (var ! 5 refl) (and-then ! (var ! 6 refl) (and-then ! (var ! 7 refl) (no-more !))))))
-        (λ found _ sought ff. move ! (1 ∷ []) $ drop ! $ split ! $ move ! (1 ∷ []) $ drop ! $ has-shown ! tt T.the-row i o ys (vlist ∷ []) known ν $
-        land ! (from ! (stop !)) (init ! 10 refl (tt, record { fits = ff .1 })) $
+        (λ found _ sought _. move ! (1 ∷ []) $ drop ! $ split ! $ move ! (1 ∷ []) $ drop ! $ has-shown ! tt T.the-row i o ys (vlist ∷ []) known ν $
+        land ! (from ! (stop !)) (init ! 10 refl (found-typed 𝓤 H A W found)) $
         -- the refusal. [list; κ; the locals]
         sets ! (of-opd ! (field-of ! 3 1 refl refl refl)) 16 refl (tt, record { fits = room .0 }) $
         nothing ! $ hands W judged.ended JudgedC (to-judged found) (false ∷ false ∷ false ∷ false ∷ false ∷ false ∷ false ∷ false ∷ []) (‵ ftrue) refl
-        ((uint-makes 𝓤 H A W w8, ff), ((num, (refl, fw)), ((num, (refl, fh)), ((num16, (refl, fi)), ((num, (refl, fx)), ((num, (refl, fy)), ((num, (refl, fc)), ((num, (refl, room .0)), tt)))))))) (id⊢ 𝓤 (emp 𝓤)) $
+        ((EL.makes S.the-type S′.the-plain 𝓤 H A, found-is found), ((num, (refl, fw)), ((num, (refl, fh)), ((num16, (refl, fi)), ((num, (refl, fx)), ((num, (refl, fy)), ((num, (refl, fc)), ((num, (refl, room .0)), tt)))))))) (id⊢ 𝓤 (emp 𝓤)) $
         called ! (fmOf 𝓤 H (W .laws) 𝓣) judged.ended JudgedC known-judged (to-judged found) (‵ ftrue) refl (vint w8) (uint-tells w8)
-        (λ r _. Gives (enter-judged found w h id x y count (length ys)) r) (λ _ _. refl)
+        (λ r _. EnterJudged found w h id x y count (length ys) r) (λ _ _. refl)
         (and-then ! (var ! 11 refl) (and-then ! (var ! 6 refl) (and-then ! (var ! 7 refl) (and-then ! (var ! 8 refl) (and-then ! (var ! 9 refl) (and-then ! (var ! 10 refl) (and-then ! (var ! 5 refl) (and-then ! (var ! 17 refl) (no-more !)))))))))
         (λ n _ e fn. let table : Gives (Rules.enter-table (lentMap ys count w h) id x y) n = enter-gives (lentMap ys count w h) id found sought x y n e in
         drop ! $ drop ! $ land ! (from ! (stop !)) (init ! 11 refl (tt, record { fits = fn .1 })) $

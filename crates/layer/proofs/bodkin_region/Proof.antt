@@ -7,7 +7,7 @@ use Rattle.askings.proofs.region as rest
 use Rattle.askings.proofs.region.Symbol as rest-def
 use Rattle.askings.proofs.region.Symbol.{name as #rest}
 use Rattle.askings.proofs.region.Met as rest-thm
-use Rattle.judging.specs.Judging.{Fits}
+use Rattle.judging.specs.Judging.{OneFit}
 use Rattle.judging.proofs.fits as judge
 use Rattle.judging.proofs.fits.Symbol as judge-def
 use Rattle.judging.proofs.fits.Symbol.{name as #judge}
@@ -35,7 +35,7 @@ bodkin-region-spec 𝓤 H 𝓜 𝓖 𝓡 =
     (record { x = at 2; y = at 3; a = at 4; b = at 5 })
     1 (w64 ∷ w64 ∷ w64 ∷ []) cⱼ #judge (cited 𝓤 H (Promised 𝓤 H A judge.ended cⱼ) 𝓜 𝓡 code.env #judge judge-def.routine code.calls-judging·fits (judge-thm.met 𝓤 H 𝓜 𝓖 𝓡))
     (λ κs a. (a .1 .1 .0, (a .1 .1 .1 .0, (length (beside F κs a .0 .now), tt))))
-    (λ κs a b. (b ≡ true) ↔ Fits (a .1 .1 .0) (a .1 .1 .1 .0) (length (beside F κs a .0 .now)))
+    (λ κs a b. (b ≡ true) ↔ OneFit (a .1 .1 .0) (a .1 .1 .1 .0) (length (beside F κs a .0 .now)))
     tt
     (record {
       body = λ _ _. refl;

@@ -27,7 +27,7 @@ number-one w h x y a b o q e = (omega (arith, ap (λ (i : ℕ). i * w) same), sa
     same = omega (arith, row-one w x y a b (o .in-x) e, row-one w a b x y (q .in-x) (sym e))
 
 -- One of the first k markers stands on (a, b).
-pub record Passed (x y : ℕ → ℕ) (k a b : ℕ) : Type 0 where
+pub record StandsBefore (x y : ℕ → ℕ) (k a b : ℕ) : Type 0 where
   pub place : ℕ
   pub below : place < k
   pub x-is : x place ≡ a
@@ -36,7 +36,7 @@ pub record Passed (x y : ℕ → ℕ) (k a b : ℕ) : Type 0 where
 pub record Stamping (w h : ℕ) (x y : ℕ → ℕ) (k : ℕ) (sheet : List ℕ) : Type 0 where
   pub size : length sheet ≡ h * w
   pub ones : (i : ℕ) → getD sheet i 0 ≤ 1
-  pub sound : (a b : ℕ) → On w h a b → 0 < at sheet w a b → Passed x y k a b
+  pub sound : (a b : ℕ) → On w h a b → 0 < at sheet w a b → StandsBefore x y k a b
   pub complete : (j : ℕ) → j < k → 0 < at sheet w (x j) (y j)
 
 pub stamping-start : (w h : ℕ) (x y : ℕ → ℕ) (s t : List ℕ) → length s ≡ h * w → Wiped s t → Stamping w h x y 0 t
@@ -69,7 +69,7 @@ stamping-more {w} {h} {k} {x} {y} {sheet} o s =
     one i (yes e) = omega (arith, ap (λ (j : ℕ). getD (set sheet n 1) j 0) e, same)
     one i (no e) = omega (arith, getD-set-other sheet n i 1 0 e, s .ones i)
 
-    from : (a b : ℕ) → On w h a b → 0 < at (set sheet n 1) w a b → Dec (number w a b ≡ n) → Passed x y (k + 1) a b
+    from : (a b : ℕ) → On w h a b → 0 < at (set sheet n 1) w a b → Dec (number w a b ≡ n) → StandsBefore x y (k + 1) a b
     from a b q m (yes e) =
         let f = number-one w h a b (x k) (y k) q o e in
         record { place = k; below = omega arith; x-is = sym (f .0); y-is = sym (f .1) }

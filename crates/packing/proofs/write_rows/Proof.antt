@@ -36,7 +36,7 @@ next r m = sym (suc-mul r m) ∙ ap (λ (n : ℕ). n * m) (sym (add-one r))
 add-row : tie.Need-add-row Inv-loop μ-loop
 add-row c =
     let a = c .before .before .args in
-    let p = c .before .before .pre .asked in
+    let p = c .before .before .pre .fits in
     omega (arith, piece-end 0 (a .h) (a .w) (p .sides .some-h), p .size)
 
 loop-holds : tie.Need-loop-holds Inv-loop μ-loop
@@ -78,7 +78,7 @@ write-row-requires c κs =
     let l = c .before .before .loop in
     let row = (a .w + 7) / 8 in
     record {
-      whole = omega (arith, piece-end (a .h - (l .r + 1)) (a .h) (a .w) (omega arith), piece-end (l .r) (a .h) (a .w) (omega arith), p .asked .size);
+      whole = omega (arith, piece-end (a .h - (l .r + 1)) (a .h) (a .w) (omega arith), piece-end (l .r) (a .h) (a .w) (omega arith), p .fits .size);
       room = filled-lent _ (l .r * row) (a .out .now) (l .out) (l .inv .1) (l .r * row + row) (row-ends (c .before)) ∙ omega arith;
     }
 

@@ -107,7 +107,7 @@ write-rows-requires c κs =
     let room : end ≤ length (a .out .now) = omega arith in
     let filled = header-filled (a .out .now) (header .last .0) start (omega arith) (header .kept .0) in
     record {
-      asked = c .before .before .before .before .before .before .before .before .before .before .before .pre;
+      fits = c .before .before .before .before .before .before .before .before .before .before .before .pre;
       room = filled-lent (header .last .0) start (a .out .now) _ filled end room ∙ omega arith;
     }
 

@@ -4,18 +4,18 @@ use mathlib.Core.Path.{_∙_}
 use Prim.Native.Nat.{_-_, _≤_}
 use native.Mathlib.Omega.{arith}
 use borrow.Author.Needs.{needs}
-use Rattle.measures.proofs.Columns.{Passed, passed-edge, passed-at, passed-all, two-rows}
+use Rattle.measures.proofs.Columns.{RowsMade, rows-made-edge, rows-made-at, rows-made-all, two-rows}
 use Rattle.measures.proofs.across.rows.Statement.{statement}
 use Rattle.measures.proofs.across.rows.Tie as tie
 
 abbrev Inv-loop : tie.InvT-loop
-Inv-loop w h high out₀ k₀ out k = (1 ≤ k) × (k ≤ h) × Passed w h high out₀ out k
+Inv-loop w h high out₀ k₀ out k = (1 ≤ k) × (k ≤ h) × RowsMade w h high out₀ out k
 
 abbrev μ-loop : tie.MeasureT-loop
 μ-loop w h high out₀ k₀ out k = h - k
 
 loop-holds : tie.Need-loop-holds Inv-loop μ-loop
-loop-holds c = (omega arith, omega arith, passed-edge)
+loop-holds c = (omega arith, omega arith, rows-made-edge)
 
 place-requires : tie.Need-place-requires Inv-loop μ-loop
 place-requires c κs = omega arith
@@ -50,7 +50,7 @@ loop-again c =
     let placed = c .before .before .before .before in (
       omega arith,
       omega arith,
-      passed-at (omega arith) (omega arith) (placed .before .before .before .loop .inv .2) (placed .before .place .ensures) (placed .place2 .ensures)
+      rows-made-at (omega arith) (omega arith) (placed .before .before .before .loop .inv .2) (placed .before .place .ensures) (placed .place2 .ensures)
           (c .before .before .row .ensures),
     )
 
@@ -58,7 +58,7 @@ same-length : tie.Need-same-length Inv-loop μ-loop
 same-length c = c .before .loop .inv .2 .size
 
 returns : tie.Need-returns Inv-loop μ-loop
-returns c = passed-all (c .before .loop .inv .2) (omega arith)
+returns c = rows-made-all (c .before .loop .inv .2) (omega arith)
 
 pub rows-spec : {M : Type 1} → statement M
 rows-spec =
