@@ -3,12 +3,12 @@
 use mathlib.Core.Path.{_≡_}
 use mathlib.Core.Bool.{Bool, true, false, cond}
 use mathlib.Core.List.{List}
-use mathlib.Core.Logic.{_≢_}
+use mathlib.Core.Logic.{_≢_, _⊎_}
 use Prim.Native.Nat.{ℕ, suc, zero, _+_, _*_, _-_, _^_, _<_, _≤_}
 use lib.Bits.{bitAnd}
 use lib.Dec.{eqb}
 use lib.ListN.{length, getD}
-use Rattle.field.specs.Map.{side, Sides, On, at, no-distance}
+use Rattle.field.specs.Map.{side, On, at, no-distance}
 use Rattle.field.specs.Distances.{Way, eastward, southward, westward, northward}
 use Rattle.sheets.specs.Promise.{Fits}
 
@@ -65,42 +65,93 @@ pub record Owned (s u : List ℕ) : Type 0 where
   pub size : length u ≡ length s
   pub each : (i : ℕ) → i < length s → OwnOf (getD s i 0) (getD u i 0)
 
--- A number that is no distance becomes none.
-pub record SettledOf (n r : ℕ) : Type 0 where
-  pub near : n < side → r ≡ n
-  pub far : side ≤ n → r ≡ no-distance
-
-pub record Settled (u v : List ℕ) : Type 0 where
-  pub size : length v ≡ length u
-  pub each : (i : ℕ) → i < length u → SettledOf (getD u i 0) (getD v i 0)
-
 -- A sheet of the closed crossings, and a sheet of the map's size to write on.
 pub record Ready (w h : ℕ) (s u : List ℕ) : Type 0 where
   pub fits : Fits w h s
   pub room : length u ≡ h * w
 
--- A sheet of the map and a row.
+-- What a crossing can have by itself.
+abbrev pub Own : ℕ → Type 0
+Own n = (n ≡ 0) ⊎ (n ≡ no-distance)
+
+-- A sheet of the map on which every crossing has what it has by itself.
+pub record OwnSheet (w h : ℕ) (u : List ℕ) : Type 0 where
+  pub fits : Fits w h u
+  pub own : (x y : ℕ) → On w h x y → Own (at u w x y)
+
+-- A sheet of the map, and a row on which every crossing has what it has by itself.
 pub record InRow (w h y : ℕ) (u : List ℕ) : Type 0 where
   pub fits : Fits w h u
   pub in-y : y < h
+  pub own : (x : ℕ) → x < w → Own (at u w x y)
 
--- The same with another row.
+-- A sheet of the map and two rows.
 pub record Beside (w h y z : ℕ) (u : List ℕ) : Type 0 where
   pub fits : Fits w h u
   pub in-y : y < h
   pub in-z : z < h
   pub other : y ≢ z
 
--- From sheet u to sheet v a running number goes along row y, and no other row changes.
+-- What place k of a line has on sheet u. The line's first place has the number `start`.
+abbrev pub placed : Bool → ℕ → List ℕ → ℕ → ℕ
+placed e start u k = getD u (onTo e start k) 0
+
+-- A line of n places on a sheet, no longer than a side.
+pub record OnLine (e : Bool) (start n : ℕ) (u : List ℕ) : Type 0 where
+  pub below : e ≡ true → n ≤ start + 1
+  pub inside : (k : ℕ) → k < n → onTo e start k < length u
+  pub short : n ≤ side
+  pub few : start + n < 2 ^ 64
+
+-- The same with one of its places, or the end behind them.
+pub record OnLineFrom (e : Bool) (start from n : ℕ) (u : List ℕ) : Type 0 where
+  pub line : OnLine e start n u
+  pub within : from ≤ n
+
+-- The lowest number of the eight places from place k on.
+abbrev pub lowestOf : Bool → ℕ → ℕ → ℕ
+lowestOf true start k = start - (k + 7)
+lowestOf false start k = start + k
+
+-- From one place on, up to place r, all have m.
+pub record Past (m : ℕ) (e : Bool) (start from n : ℕ) (u : List ℕ) (r : ℕ) : Type 0 where
+  pub least : from ≤ r
+  pub most : r ≤ n
+  pub same : (k : ℕ) → from ≤ k → k < r → placed e start u k ≡ m
+
+-- From one place on, r is the first that is closed, or the end.
+pub record Met (e : Bool) (start from n : ℕ) (u : List ℕ) (r : ℕ) : Type 0 where
+  pub least : from ≤ r
+  pub most : r ≤ n
+  pub free : (k : ℕ) → from ≤ k → k < r → placed e start u k ≢ 0
+  pub closed : r < n → placed e start u r ≡ 0
+
+-- From sheet u to sheet v a number runs along a line, from 0 on, and nothing else changes.
+pub record Ran (e : Bool) (start n : ℕ) (u v : List ℕ) : Type 0 where
+  pub size : length v ≡ length u
+  pub ran : (k : ℕ) → k < n → placed e start v k ≡ run counted 0 (placed e start u) (suc k)
+  pub rest : (i : ℕ) → ((k : ℕ) → k < n → i ≢ onTo e start k) → getD v i 0 ≡ getD u i 0
+
+-- The number before each place: none before the first.
+abbrev pub lead : (ℕ → ℕ) → ℕ → ℕ
+lead f zero = no-distance
+lead f (suc k) = f k
+
+-- On sheet v each number of row y is made of the one before it and of what the crossing has on
+-- sheet u.
+pub record RowOnward (w : ℕ) (e : Bool) (y : ℕ) (u v : List ℕ) : Type 0 where
+  pub made : (k : ℕ) → k < w → at v w (nth e w k) y ≡ onward (lead (λ j. at v w (nth e w j) y) k) (at u w (nth e w k) y)
+
+-- From sheet u to sheet v that is done along row y, and no other row changes.
 pub record RowRun (w h : ℕ) (e : Bool) (y : ℕ) (u v : List ℕ) : Type 0 where
   pub size : length v ≡ length u
-  pub ran : (k : ℕ) → k < w → at v w (nth e w k) y ≡ run counted side (λ j. at u w (nth e w j) y) (suc k)
+  pub ran : RowOnward w e y u v
   pub rest : (a b : ℕ) → On w h a b → b ≢ y → at v w a b ≡ at u w a b
 
 -- The same along every row.
 pub record RowsRun (w h : ℕ) (e : Bool) (u v : List ℕ) : Type 0 where
   pub size : length v ≡ length u
-  pub ran : (k y : ℕ) → k < w → y < h → at v w (nth e w k) y ≡ run counted side (λ j. at u w (nth e w j) y) (suc k)
+  pub ran : (y : ℕ) → y < h → RowOnward w e y u v
 
 -- From sheet u to sheet v row y is made of what it has and of row z, and no other row changes.
 pub record RowMade (w h y z : ℕ) (u v : List ℕ) : Type 0 where

@@ -4,10 +4,7 @@ use field::NO_DISTANCE;
 ghost use mathlib.Core.Path.{_≡_};
 ghost use Prim.Native.Nat.{_<_};
 ghost use lib.ListN.{length};
-ghost use Rattle.measures.specs.Running.{Nth, Room, onTo, OwnOf, Owned, SettledOf, Settled};
-
-// More than any distance: what a running number counts on from while it has met no closed crossing.
-pub(crate) const FAR: u8 = field::SIDE as u8;
+ghost use Rattle.measures.specs.Running.{Nth, Room, onTo, OwnOf, Owned};
 
 // Place k of n, counted from the high end or from the low one.
 pub(crate) fn place(high: bool, n: usize, k: usize) -> usize
@@ -49,27 +46,6 @@ pub(crate) fn own(s: &[u8], out: &mut [u8])
     let mut i = 0;
     while i < out.len() {
         out[i] = own_of(s[i]);
-        i += 1;
-    }
-}
-
-// A number that was counted on from FAR has met nothing: it becomes none.
-fn settled_of(n: u8) -> u8
-    ensures { λ r. ⌜ SettledOf n r ⌝ }
-{
-    if n < FAR {
-        return n;
-    }
-    NO_DISTANCE
-}
-
-// The same for every crossing.
-pub(crate) fn settle(out: &mut [u8])
-    ensures { λ _. ⌜ Settled (now (out .entry)) (now (out .exit)) ⌝ }
-{
-    let mut i = 0;
-    while i < out.len() {
-        out[i] = settled_of(out[i]);
         i += 1;
     }
 }

@@ -5,6 +5,7 @@
 mod across; // across.rt: the running numbers along the columns, south and north
 mod along; // along.rt: the running number along a row, east and west
 mod each; // each.rt: what is done to every crossing by itself
+mod eights; // eights.rt: eight numbers at a time
 
 ghost use Rattle.measures.specs.Promise.{SheetsLent, Measured};
 

@@ -8,18 +8,17 @@ use mathlib.Core.Logic.{_↔_}
 use Prim.Native.Nat.{ℕ, _+_, _-_, _<_, _≤_}
 use native.Mathlib.Omega.{arith}
 use native.Mathlib.Decide.{decLt, ℕ-discrete}
+use borrow.Author.Tests.{eq-eqb, eqb-true}
+use lib.Dec.{eqb}
 use lib.ListN.{length}
 use Rattle.field.specs.declared.Marker.{Marker}
 use Rattle.field.specs.Map.{On}
 use Rattle.markers.specs.List.{slot, WellFormed}
 use Rattle.records.specs.Steps.{Few, Follows}
 
--- An answer is the truth of P: no where P fails, yes where it holds.
+-- An answer is the truth of P: no where P fails.
 pub refused : {P : Type 0} → (P → ⊥) → ((false ≡ true) ↔ P)
 refused n = (λ e. let z : _≡_ {A = ℕ} 0 1 = cc in absurd (omega arith), λ p. absurd (n p))
-
-pub accepted : {P : Type 0} → P → ((true ≡ true) ↔ P)
-accepted p = (λ e. p, λ q. refl)
 
 module _ (w h : ℕ) (list : List Marker) (count : ℕ) where
   pub record Forming (last k : ℕ) : Type 0 where
@@ -93,3 +92,11 @@ module _ (w h : ℕ) (list : List Marker) (count : ℕ) where
 
   pub formed-few : WellFormed w h list count → Few count (length list)
   formed-few g = record { most = g .few; within = g .lent }
+
+  -- The answer, that the last marker looked at is the last of all: where one does not follow, and
+  -- where none is left.
+  pub stopped : {last k : ℕ} → k < count → ¬ Follows last (slot list k) w h → Forming last k → ((eqb k count ≡ true) ↔ WellFormed w h list count)
+  stopped {last} {k} l fails f = (λ e. absurd (omega (arith, eqb-true k count e)), λ g. absurd (fails (next-follows l f g)))
+
+  pub ended : {last k : ℕ} → count ≤ k → Few count (length list) → Forming last k → ((eqb k count ≡ true) ↔ WellFormed w h list count)
+  ended {last} {k} l few f = (λ e. forming-end l few f, λ g. eq-eqb k count (omega (arith, f .upto)))

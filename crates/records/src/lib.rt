@@ -38,7 +38,8 @@ fn follows(last: u16, m: Marker, w: usize, h: usize) -> bool
 }
 
 // Whether the list is well formed on a map of this width and height: count within its limits, ids
-// from 1 rising, every marker on the map.
+// from 1 rising, every marker on the map. The answer is read off the place where the loop ends, not
+// handed back from within it: so a compiler makes one jump of each test, and no value of it.
 pub fn well_formed(list: &[Marker], count: usize, w: usize, h: usize) -> bool
     ensures { λ r. ⌜ ((r ≡ true) ↔ WellFormed w h (now (list .entry)) count) ⌝ }
 {
@@ -50,12 +51,12 @@ pub fn well_formed(list: &[Marker], count: usize, w: usize, h: usize) -> bool
     while k < count {
         let m = list[k];
         if !follows(last, m, w, h) {
-            return false;
+            break;
         }
         last = m.id;
         k += 1;
     }
-    true
+    k == count
 }
 
 // Where the id stands or belongs.

@@ -16,22 +16,28 @@ pub record Looked (i : ℕ) (s : List ℕ) (r : ℕ) : Type 0 where
   pub is : r ≡ getD s i 0
   pub most : r ≤ 1
 
--- Eight bytes, as the low eight bits of r.
-pub record LookingEight (i : ℕ) (s : List ℕ) : Type 0 where
+-- n bytes of a sheet of 0 and 1 from number i on.
+pub record LookingAt (i n : ℕ) (s : List ℕ) : Type 0 where
   pub ones : ZeroOne s
-  pub in-sheet : i + 8 ≤ length s
+  pub in-sheet : i + n ≤ length s
 
+-- Four bytes as one number, the lowest first.
+abbrev pub fourOf : (a b c d : ℕ) → ℕ
+fourOf a b c d = a + 0x100 * b + 0x1_0000 * c + 0x100_0000 * d
+
+pub record LookedFour (i : ℕ) (s : List ℕ) (r : ℕ) : Type 0 where
+  pub is : r ≡ fourOf (getD s i 0) (getD s (i + 1) 0) (getD s (i + 2) 0) (getD s (i + 3) 0)
+  pub most : r ≤ 0x0101_0101
+
+-- Eight bytes, as the low eight bits of r.
 pub record LookedEight (i : ℕ) (s : List ℕ) (r : ℕ) : Type 0 where
   pub bits : (j : ℕ) → j < 8 → bitAt r j ≡ getD s (i + j) 0
   pub small : r < 256
 
--- What the machine computes where it gathers eight bytes into eight bits, and where it spreads them
--- out.
+-- What the machine computes where it gathers eight bits that stand four apart, and where it spreads
+-- eight bits out into eight bytes.
 unfoldable pub gathered : ℕ → ℕ
-gathered v =
-    let a : ℕ = bitOr v (v / 2 ^ 7) in
-    let b : ℕ = bitOr a (a / 2 ^ 14) in
-    bitAnd (bitOr b (b / 2 ^ 28)) 255
+gathered v = bitAnd (v * 0x0020_4081 / 2 ^ 21) 255
 
 unfoldable pub spreadOut : ℕ → ℕ
 spreadOut v =

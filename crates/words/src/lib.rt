@@ -2,10 +2,10 @@
 // written from words, eight bytes at a time wherever eight are left; the low bits of a word, and
 // how many bits of it are set.
 ghost use mathlib.Core.Path.{_≡_};
-ghost use Prim.Native.Nat.{_+_, _*_, _/_, _<_, _≤_};
+ghost use Prim.Native.Nat.{_+_, _*_, _/_, _^_, _<_, _≤_};
 ghost use Rattle.bits.specs.Bit.{Mask};
 ghost use Rattle.words.specs.Words.{Ones, ReadingWord, Reads, WrittenAt};
-ghost use Rattle.words.specs.Eights.{Looking, Looked, gathered, spreadOut, LookingEight, LookedEight, Puts, Bytes};
+ghost use Rattle.words.specs.Eights.{Looking, Looked, gathered, spreadOut, LookingAt, LookedFour, LookedEight, Puts, Bytes};
 
 // The low n bits.
 pub fn mask_of(n: usize) -> u64
@@ -37,14 +37,13 @@ fn look(s: &[u8], i: usize) -> u64
     wide(s[i])
 }
 
-// Eight bytes of 0 and 1 in a word, gathered into its low eight bits: the bytes fold onto each
-// other in three steps.
+// Eight bits that stand four apart, gathered side by side: the product has each of them at its
+// place, since no two of its terms share a bit.
 fn gather(v: u64) -> u64
+    requires { ⌜ v < 2 ^ 32 ⌝ }
     ensures { λ r. ⌜ r ≡ gathered v ⌝ }
 {
-    let a = v | (v >> 7);
-    let b = a | (a >> 14);
-    (b | (b >> 28)) & 255
+    ((v * 0x0020_4081) >> 21) & 255
 }
 
 // The low eight bits, spread out into eight bytes of 0 and 1: the same three steps back.
@@ -64,30 +63,28 @@ fn both(a: u64, b: u64) -> u64
     spread(a) + 2 * spread(b)
 }
 
-// Eight bytes of a sheet of 0 and 1 from number i on, as bits. A load of eight bytes as one word is
-// what the machine makes of it.
-fn eight(s: &[u8], i: usize) -> u64
-    requires { ⌜ LookingEight i (now s) ⌝ }
-    ensures { λ r. ⌜ LookedEight i (now (s .entry)) r ⌝ }
+// Four bytes of a sheet of 0 and 1 from number i on, as one number. A load of four bytes is what the
+// machine makes of it.
+fn four(s: &[u8], i: usize) -> u64
+    requires { ⌜ LookingAt i 4 (now s) ⌝ }
+    ensures { λ r. ⌜ LookedFour i (now (s .entry)) r ⌝ }
 {
     let a = look(s, i);
     let b = look(s, i + 1);
     let c = look(s, i + 2);
     let d = look(s, i + 3);
-    let e = look(s, i + 4);
-    let f = look(s, i + 5);
-    let g = look(s, i + 6);
-    let h = look(s, i + 7);
-    gather(
-        a
-            + 0x100 * b
-            + 0x1_0000 * c
-            + 0x100_0000 * d
-            + 0x1_0000_0000 * e
-            + 0x100_0000_0000 * f
-            + 0x1_0000_0000_0000 * g
-            + 0x100_0000_0000_0000 * h,
-    )
+    a + 0x100 * b + 0x1_0000 * c + 0x100_0000 * d
+}
+
+// Eight bytes of a sheet of 0 and 1 from number i on, as bits. The bytes of the second four go
+// between those of the first.
+fn eight(s: &[u8], i: usize) -> u64
+    requires { ⌜ LookingAt i 8 (now s) ⌝ }
+    ensures { λ r. ⌜ LookedEight i (now (s .entry)) r ⌝ }
+{
+    let a = four(s, i);
+    let b = four(s, i + 4);
+    gather(a + 16 * b)
 }
 
 // Writes the eight bytes of a word from number i on, the lowest first.

@@ -1,11 +1,11 @@
 -- `well_formed` meets its contract: a walk of its code by hand. The loop keeps Forming.
 use Rattle.walks.specs.Prelude.{marker-size, _≡_, refl, sym, ap, subst, _∙_, Bool, true, false, not, List, [], _∷_, _++_, none, some as held, _↔_, ℕ, _+_, _-_, _*_, _<_, _≤_, _^_}
-use Rattle.walks.specs.Prelude.{arith, URA, fullShare, length, T as Holds, ltb→lt, nltb→le, lit<, named, w16, w64, Val, vint, vbool, SProp, ent, emp, id⊢, Lft, Share, GName, Fml, ftrue, flft}
+use Rattle.walks.specs.Prelude.{arith, URA, fullShare, length, T as Holds, eqb, ltb→lt, nltb→le, lit<, named, w16, w64, Val, vint, vbool, SProp, ent, emp, id⊢, Lft, Share, GName, Fml, ftrue, flft}
 use Rattle.walks.specs.Prelude.{Memory, Routine, Heap, Env, WpFn, Tables, Atoms, Fun, fact, givenOf, tables, tablesOf, fmOf, Given, Item, ‵, raw, _⊛_, ⋆, Sq, runs, atRet, _$_, _∵_}
 use Rattle.walks.specs.Prelude.{ !, qed, by, move, keep, use0, use1, split, join, fsplit, fjoin, frame, suffices, done, look, look-raw, init, store, forget, stop, hop, fld, from, load}
-use Rattle.walks.specs.Prelude.{lit, true-lit, false-lit, of-opd, bin, un, and-then, no-more, land, assigns, assigns-last, returns, whole, sub, look-in, owns, Is, uint-vals, uint-tells, uint-makes, bool-makes, bool-tells, bool, u16}
+use Rattle.walks.specs.Prelude.{lit, false-lit, of-opd, bin, un, and-then, no-more, land, assigns, assigns-last, returns, whole, sub, look-in, owns, Is, uint-vals, uint-tells, uint-makes, bool-makes, bool-tells, bool, u16}
 use Rattle.walks.specs.Prelude.{usize, RefT, sliceVal, ShrSlice, Room, slice-vals, shr-slice-tells, owned, nothing, Clauses, Vals, onEntry, Meets, tripleOf, Triple, entered, cited, Blocks, envOf, locals, enters, leaves, Round, Turn}
-use Rattle.walks.specs.Prelude.{looped, turns, tested, unless, gives, gives-up, pays, called, mach, IsMarker, marker-typed, id-fits, lentList, looks-into, reads-lent, Promised, asked-nothing, meets, ends}
+use Rattle.walks.specs.Prelude.{Rest, looped, turns, tested, breaks, unless, gives, pays, called, mach, IsMarker, marker-typed, id-fits, lentList, looks-into, reads-lent, Promised, asked-nothing, meets, ends}
 use types.Kit.{drop}
 use denote.Struct.Laws as LL
 use Rattle.field.specs.declared.Marker.{Marker}
@@ -13,7 +13,7 @@ use Rattle.field.proofs.Marker as T
 use Rattle.field.proofs.Marker.Laws as T′
 use Rattle.markers.specs.List.{slot, WellFormed}
 use Rattle.records.specs.Steps.{Few, Follows}
-use Rattle.records.proofs.Forming.{Forming, forming-start, forming-more, forming-end, next-follows, formed-few, refused, accepted}
+use Rattle.records.proofs.Forming.{Forming, forming-start, forming-more, formed-few, stopped, ended, refused}
 use Rattle.records.proofs.few as few
 use Rattle.records.proofs.few.Symbol as few-def
 use Rattle.records.proofs.few.Symbol.{name as #few}
@@ -100,6 +100,12 @@ module _ {M : Type 1} (𝓤 : URA M) (H : Heap 𝓤) (A : Atoms 𝓤) (W : Given
             (none ∷ held vlist ∷ held (vint w64 count) ∷ held (vint w64 w) ∷ held (vint w64 h) ∷ held (vint w16 (s .1 .0)) ∷ held (vint w64 (s .0)) ∷ []) [];
       }
 
+      -- Once the loop is left: whether it came to the end.
+      finish : (s : Upto) → ((eqb (s .0) count ≡ true) ↔ WellFormed w h ys count) → Sq W (ρ .holds s) (Rest ρ)
+      finish s e =
+          assigns ! (bin ! (load ! (from ! (stop !)) (look ! 8 refl)) (load ! (from ! (stop !)) (look ! 4 refl)) tt) (from ! (stop !)) (init ! 2 refl (tt, tt)) $ returns ! (look ! 2 refl) $
+          leaves ! Δ (held _ ∷ held _ ∷ held _ ∷ held _ ∷ held _ ∷ held _ ∷ held _ ∷ []) (exits (eqb (s .0) count) e)
+
       turn : Few count (length ys) → (s : Upto) → Sq W (ρ .holds s) (Turn A ρ s Mir.turn-1)
       turn within s =
           let f : Forming w h ys count (s .1 .0) (s .0) = s .1 .1 .0 in
@@ -127,20 +133,15 @@ module _ {M : Type 1} (𝓤 : URA M) (H : Heap 𝓤) (A : Atoms 𝓤) (W : Given
           (and-then ! (load ! (from ! (stop !)) (look ! 8 refl)) (and-then ! (load ! (from ! (stop !)) (look ! 10 refl)) (and-then ! (load ! (from ! (stop !)) (look ! 6 refl)) (and-then ! (load ! (from ! (stop !)) (look ! 7 refl)) (no-more !)))))
           (λ r _ e _. drop ! $ drop ! $ land ! (from ! (stop !)) (store ! 13 refl (tt, tt)) $
           assigns ! (un ! (load ! (from ! (stop !)) (look ! 13 refl)) tt) (from ! (stop !)) (init ! 17 refl (tt, tt)) $
-          unless ! (load ! (from ! (stop !)) (look ! 17 refl))
-          (λ no.
-          assigns ! (of-opd ! (false-lit !)) (from ! (stop !)) (init ! 2 refl (tt, tt)) $ gives-up ! ρ s (look ! 2 refl) $
-          leaves ! Δ (held _ ∷ held _ ∷ held _ ∷ held _ ∷ held _ ∷ held _ ∷ held _ ∷ held _ ∷ none ∷ none ∷ none ∷ held _ ∷ held _ ∷ held _ ∷ held _ ∷ held _ ∷ [])
-          (exits false (refused (λ g. test-no r no (e .1 (next-follows w h ys count less f g))))))
+          breaks ! ρ s (load ! (from ! (stop !)) (look ! 17 refl))
+          (λ no. forget ! 9 refl $ forget ! 13 refl $ forget ! 14 refl $ forget ! 15 refl $ forget ! 16 refl $ forget ! 17 refl $
+          finish s (stopped w h ys count less (λ next. test-no r no (e .1 next)) f))
           (λ yes. let next : Follows (s .1 .0) (slot ys (s .0)) w h = e .0 (test-yes r yes) in
           assigns ! (of-opd ! (load ! (from ! (fld ! refl (stop !))) (look-in ! 9 (sub ! 0 refl (whole !))))) (from ! (stop !)) (store ! 7 refl (tt, record { fits = id-fits (slot ys (s .0)) is })) $
           assigns-last ! (bin ! (load ! (from ! (stop !)) (look ! 8 refl)) (lit ! tt) (record { fits = f₂ })) (from ! (stop !)) (store ! 8 refl (tt, record { fits = f₂ })) $
           forget ! 9 refl $ forget ! 13 refl $ forget ! 14 refl $ forget ! 15 refl $ forget ! 16 refl $ forget ! 17 refl $
           turns ! ρ s (s .0 + 1, (slot ys (s .0) .id, (forming-more w h ys count less next f, id-fits (slot ys (s .0)) is))) (omega arith)))))
-          (λ over.
-          assigns ! (of-opd ! (true-lit !)) (from ! (stop !)) (init ! 2 refl (tt, tt)) $ returns ! (look ! 2 refl) $
-          leaves ! Δ (held _ ∷ held _ ∷ held _ ∷ held _ ∷ held _ ∷ held _ ∷ held _ ∷ none ∷ none ∷ none ∷ none ∷ held _ ∷ [])
-          (exits true (accepted (forming-end w h ys count (nltb→le (s .0) count over) within f))))
+          (λ over. forget ! 13 refl $ finish s (ended w h ys count (nltb→le (s .0) count over) within f))
 
     walk : ent 𝓤 (onEntry 𝓤 H A this.signature (κ, tt) (q, tt) args vals) (WpFn 𝓤 H (𝓣 .C) (𝓣 .Λ) code.function (vlist ∷ vint w64 count ∷ vint w64 w ∷ vint w64 h ∷ []) Post)
     walk =

@@ -15,7 +15,7 @@ use Rattle.field.specs.Workings.Corners.{every, every-one}
 use Rattle.bits.specs.Bit.{bitAt}
 use Rattle.bits.specs.Laws.{bit-le}
 use Rattle.words.specs.Words.{ZeroOne, byteOf}
-use Rattle.words.specs.Eights.{gathered, spreadOut, Puts, Looked, LookedEight, Bytes}
+use Rattle.words.specs.Eights.{gathered, spreadOut, Puts, fourOf, LookedFour, LookedEight, Bytes}
 use Rattle.words.proofs.Laws.Digits.{digits, digit-at}
 
 -- Eight bytes of a word, and the low eight bits of v as bytes.
@@ -23,19 +23,26 @@ abbrev pub apartOf : (a b c d e f g h : ℕ) → ℕ
 apartOf a b c d e f g h =
     a + 0x100 * b + 0x1_0000 * c + 0x100_0000 * d + 0x1_0000_0000 * e + 0x100_0000_0000 * f + 0x1_0000_0000_0000 * g + 0x100_0000_0000_0000 * h
 
+-- The same eight with the second four between the first.
+abbrev foldedOf : (a b c d e f g h : ℕ) → ℕ
+foldedOf a b c d e f g h = fourOf a b c d + 16 * fourOf e f g h
+
+unfoldable folded : ℕ → ℕ
+folded v = foldedOf (bitAt v 0) (bitAt v 1) (bitAt v 2) (bitAt v 3) (bitAt v 4) (bitAt v 5) (bitAt v 6) (bitAt v 7)
+
 unfoldable apart : ℕ → ℕ
 apart v = apartOf (bitAt v 0) (bitAt v 1) (bitAt v 2) (bitAt v 3) (bitAt v 4) (bitAt v 5) (bitAt v 6) (bitAt v 7)
 
-test-gather : every 256 (λ v. eqb (gathered (apart v)) v) ≡ true
-unfolding every gathered apart bitAt
+test-gather : every 256 (λ v. eqb (gathered (folded v)) v) ≡ true
+unfolding every gathered folded bitAt
 test-gather = refl
 
 test-spread : every 256 (λ v. eqb (spreadOut v) (apart v)) ≡ true
 unfolding every spreadOut apart bitAt
 test-spread = refl
 
-gather-law : (v : ℕ) → v < 256 → gathered (apart v) ≡ v
-gather-law v l = eqb-true (gathered (apart v)) v (every-one 256 (λ v. eqb (gathered (apart v)) v) test-gather v l)
+gather-law : (v : ℕ) → v < 256 → gathered (folded v) ≡ v
+gather-law v l = eqb-true (gathered (folded v)) v (every-one 256 (λ v. eqb (gathered (folded v)) v) test-gather v l)
 
 spread-law : (v : ℕ) → v < 256 → spreadOut v ≡ apart v
 spread-law v l = eqb-true (spreadOut v) (apart v) (every-one 256 (λ v. eqb (spreadOut v) (apart v)) test-spread v l)
@@ -53,20 +60,19 @@ module _ (f : ℕ → ℕ) (b : (k : ℕ) → f k < 2) where
   unfolding packed digits
   packed-small = omega (arith, b 0, b 1, b 2, b 3, b 4, b 5, b 6, b 7)
 
-  packed-apart : apart packed ≡ apartOf (f 0) (f 1) (f 2) (f 3) (f 4) (f 5) (f 6) (f 7)
-  unfolding apart
-  packed-apart =
+  packed-folded : folded packed ≡ foldedOf (f 0) (f 1) (f 2) (f 3) (f 4) (f 5) (f 6) (f 7)
+  unfolding folded
+  packed-folded =
       let is : (j : ℕ) → j < 8 → bitAt packed j ≡ f j = packed-bit in
-      λ i. apartOf (is 0 (omega arith) i) (is 1 (omega arith) i) (is 2 (omega arith) i) (is 3 (omega arith) i) (is 4 (omega arith) i) (is 5 (omega arith) i)
+      λ i. foldedOf (is 0 (omega arith) i) (is 1 (omega arith) i) (is 2 (omega arith) i) (is 3 (omega arith) i) (is 4 (omega arith) i) (is 5 (omega arith) i)
       (is 6 (omega arith) i) (is 7 (omega arith) i)
 
-  gather-is : gathered (apartOf (f 0) (f 1) (f 2) (f 3) (f 4) (f 5) (f 6) (f 7)) ≡ packed
-  gather-is = ap gathered (sym packed-apart) ∙ gather-law packed packed-small
+  gather-is : gathered (foldedOf (f 0) (f 1) (f 2) (f 3) (f 4) (f 5) (f 6) (f 7)) ≡ packed
+  gather-is = ap gathered (sym packed-folded) ∙ gather-law packed packed-small
 
--- Eight bytes of a sheet of 0 and 1, each looked at.
-pub eight-law : {i r : ℕ} {s : List ℕ} (a b c d e f g h : ℕ) → ZeroOne s → Looked i s a → Looked (i + 1) s b → Looked (i + 2) s c → Looked (i + 3) s d
-    → Looked (i + 4) s e → Looked (i + 5) s f → Looked (i + 6) s g → Looked (i + 7) s h → r ≡ gathered (apartOf a b c d e f g h) → LookedEight i s r
-eight-law {i} {r} {s} a b c d e f g h zo pa pb pc pd pe pf pg ph q =
+-- Eight bytes of a sheet of 0 and 1, four and four.
+pub eight-law : {i r : ℕ} {s : List ℕ} (a b : ℕ) → ZeroOne s → LookedFour i s a → LookedFour (i + 4) s b → r ≡ gathered (a + 16 * b) → LookedEight i s r
+eight-law {i} {r} {s} a b zo pa pb q =
     record { bits = λ j l. ap (λ (k : ℕ). bitAt k j) is ∙ packed-bit byte small j l; small = rw is (packed-small byte small) }
   where
     byte : ℕ → ℕ
@@ -75,11 +81,18 @@ eight-law {i} {r} {s} a b c d e f g h zo pa pb pc pd pe pf pg ph q =
     small : (k : ℕ) → byte k < 2
     small k = omega (arith, zo (i + k))
 
-    first : a ≡ byte 0
-    first = let z : i ≡ i + 0 = omega arith in pa .is ∙ ap (λ (k : ℕ). getD s k 0) z
+    -- The byte at a number that is k on from i.
+    at : (m k : ℕ) → m ≡ i + k → getD s m 0 ≡ byte k
+    at m k e = ap (λ (m : ℕ). getD s m 0) e
+
+    first : a ≡ fourOf (byte 0) (byte 1) (byte 2) (byte 3)
+    first = pa .is ∙ (λ t. fourOf (at i 0 (omega arith) t) (byte 1) (byte 2) (byte 3))
+
+    second : b ≡ fourOf (byte 4) (byte 5) (byte 6) (byte 7)
+    second = pb .is ∙ (λ t. fourOf (byte 4) (at (i + 4 + 1) 5 (omega arith) t) (at (i + 4 + 2) 6 (omega arith) t) (at (i + 4 + 3) 7 (omega arith) t))
 
     is : r ≡ packed byte small
-    is = q ∙ (λ t. gathered (apartOf (first t) (pb .is t) (pc .is t) (pd .is t) (pe .is t) (pf .is t) (pg .is t) (ph .is t))) ∙ gather-is byte small
+    is = q ∙ ap₂ (λ (x y : ℕ). gathered (x + 16 * y)) first second ∙ gather-is byte small
 
 -- The bytes of a word, written one by one.
 puts-start : {i v : ℕ} {s : List ℕ} → Puts i v 0 s s

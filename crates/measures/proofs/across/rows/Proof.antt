@@ -3,7 +3,6 @@
 use mathlib.Core.Path.{_∙_}
 use Prim.Native.Nat.{_-_, _≤_}
 use native.Mathlib.Omega.{arith}
-use borrow.Author.Needs.{needs}
 use Rattle.measures.proofs.Columns.{RowsMade, rows-made-edge, rows-made-at, rows-made-all, two-rows}
 use Rattle.measures.proofs.across.rows.Statement.{statement}
 use Rattle.measures.proofs.across.rows.Tie as tie

@@ -1,9 +1,10 @@
 -- `along::rows` meets its contract. The invariant: the rows passed have their running numbers.
-use mathlib.Core.Path.{_∙_}
+use mathlib.Core.Path.{sym, subst, _∙_}
 use Prim.Native.Nat.{_-_, _≤_}
 use native.Mathlib.Omega.{arith}
-use borrow.Author.Needs.{needs}
-use Rattle.measures.proofs.Runs.{RowsPassed, rows-none, rows-more, rows-all}
+use Rattle.field.specs.Map.{On}
+use Rattle.measures.specs.Running.{Own}
+use Rattle.measures.proofs.Rows.{RowsPassed, rows-none, rows-more, rows-all}
 use Rattle.measures.proofs.along.rows.Statement.{statement}
 use Rattle.measures.proofs.along.rows.Tie as tie
 
@@ -19,7 +20,15 @@ loop-holds c = (omega arith, rows-none)
 row-requires : tie.Need-row-requires Inv-loop μ-loop
 row-requires c κs =
     let pre = c .before .before .before .before .pre in
-    record { fits = record { sides = pre .sides; size = c .before .before .loop .inv .1 .size ∙ pre .size }; in-y = omega arith }
+    let args = c .before .before .before .before .args in
+    let loop = c .before .before .loop in
+    record {
+      fits = record { sides = pre .fits .sides; size = loop .inv .1 .size ∙ pre .fits .size };
+      in-y = omega arith;
+      own = λ x l.
+          let o : On (args .w) (args .h) x (loop .y) = record { in-x = l; in-y = omega arith } in
+          subst Own (sym (loop .inv .1 .ahead x (loop .y) o (omega arith))) (pre .own x (loop .y) o);
+    }
 
 add-y : tie.Need-add-y Inv-loop μ-loop
 add-y c = omega arith

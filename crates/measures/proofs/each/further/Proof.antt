@@ -1,6 +1,4 @@
 -- `each::further` meets its contract, by the end that it counts from.
-use borrow.Author.Needs.{needs}
-use native.Mathlib.Omega.{arith}
 use Rattle.measures.proofs.each.further.Statement.{statement}
 use Rattle.measures.proofs.each.further.Tie as tie
 

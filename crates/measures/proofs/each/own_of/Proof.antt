@@ -1,6 +1,5 @@
 -- `each::own_of` meets its contract: none where there is no mark.
 use mathlib.Core.Path.{refl, sym}
-use native.Mathlib.Omega.{arith}
 use Rattle.field.specs.Limits.{no-distance-is}
 use Rattle.measures.proofs.each.own_of.Statement.{statement}
 use Rattle.measures.proofs.each.own_of.Tie as tie
