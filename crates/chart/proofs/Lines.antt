@@ -1,30 +1,15 @@
--- Numbers put one after the other make a line, and each takes its room at most.
-use mathlib.Core.Path.{refl, ap, _∙_}
-use mathlib.Core.List.{List, [], _∷_, _++_, append-assoc}
-use Prim.Native.Nat.{ℕ, _+_, _≤_}
+-- Five numbers put one after the other make the first line, and each takes its room at most.
+use mathlib.Core.Path.{refl}
+use mathlib.Core.List.{List, _++_, append-assoc}
+use Prim.Native.Nat.{ℕ}
 use native.Mathlib.Omega.{arith}
-use lib.ListN.{length, length-append}
 use Rattle.labels.specs.declared.Labelled.{Labelled}
 use Rattle.packing.proofs.Filling.{Filled, filled-as}
-use Rattle.chart.specs.Promise.{number-room, Line, last-number, next-number}
-use Rattle.chart.specs.Parts.{Puts, NumberThen, FirstLine}
-use Rattle.chart.proofs.Putting.{put-front, front-put, filled-more}
+use Rattle.printing.specs.Parts.{Puts, NumberThen}
+use Rattle.printing.proofs.Putting.{put-front, front-put, filled-more}
+use Rattle.printing.proofs.Lines.{number-ends, line-last, line-next}
+use Rattle.chart.specs.Parts.{FirstLine}
 
-pub number-ends : {v mark at end : ℕ} {out after : List ℕ} → Puts (NumberThen v mark) out at after end → end ≤ at + number-room
-number-ends {v} {mark} p =
-    let n = p .right in
-    omega (arith, p .put .size, ap length (n .is) ∙ length-append (n .digits) (mark ∷ []), n .few)
-
--- The last number of a line, with LF after it.
-pub line-last : {v : ℕ} {l : List ℕ} → NumberThen v 10 l → Line (v ∷ []) l
-line-last {v} n = last-number v (n .digits) (n .printed) refl (n .is)
-
--- A number and a space before a line.
-pub line-next : {v : ℕ} {us l k : List ℕ} → NumberThen v 32 l → Line us k → Line (v ∷ us) (l ++ k)
-line-next {v} {us} {l} {k} n m =
-    next-number v (n .digits) k (n .printed) m refl (ap (λ (a : List ℕ). a ++ k) (n .is) ∙ append-assoc (n .digits) (32 ∷ []) k)
-
--- Five numbers put one after the other are the first line.
 module _ {w h : ℕ} {r : Labelled} {out a b c d after : List ℕ} {i j k l end : ℕ} where
   pub line-put : Puts (NumberThen w 32) out 0 a i → Puts (NumberThen h 32) a i b j → Puts (NumberThen (r .rocks) 32) b j c k
       → Puts (NumberThen (r .shut) 32) c k d l → Puts (NumberThen (r .groups) 10) d l after end → Puts (FirstLine w h r) out 0 after end

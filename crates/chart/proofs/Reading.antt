@@ -16,8 +16,11 @@ use Rattle.mapfile.specs.RockLaws.{raster-bits, raster-crossings}
 use Rattle.reader.specs.declared.Reading.{Reading}
 use Rattle.reader.specs.declared.Reading.the-variants.{Map, Refused}
 use Rattle.reader.specs.Promise.{Reads, MapTaken}
-use Rattle.chart.specs.Promise.{line-room, most-bytes, Refusal, fault, too-many, Charted, not-taken, shown}
-use Rattle.chart.specs.Parts.{Puts, BitsShown, RefusalLine}
+use Rattle.mapfile.specs.Following.{most-bytes}
+use Rattle.chart.specs.Promise.{line-room, Refusal, fault, too-many, Charted, not-taken, shown}
+use Rattle.chart.specs.Parts.{BitsShown}
+use Rattle.printing.specs.Printed.{RefusalLine}
+use Rattle.printing.specs.Parts.{Puts}
 use Rattle.turning.specs.Turning.{MayTurn}
 
 -- The bits of a map file, one for each crossing.

@@ -10,11 +10,13 @@ use Rattle.field.specs.Workings.SameLaws.{Alike, open-same, closed-same, shut-s
 use Rattle.labels.specs.declared.Labelled.{Labelled}
 use Rattle.labels.specs.Promise.{Stones, Labels}
 use Rattle.chart.specs.Promise.{Picture}
-use Rattle.chart.specs.Parts.{Put, Puts, FirstLine, Shown, BitsShown}
+use Rattle.printing.specs.Parts.{Put, Puts}
+use Rattle.chart.specs.Parts.{FirstLine, Shown, BitsShown}
 use Rattle.chart.specs.Drawing.{pictureOf}
 use Rattle.chart.specs.DrawingLaws.{picture-drawn}
+use Rattle.turning.specs.Stamping.{stones-alike}
 use Rattle.mapfile.specs.File.{FileRock}
-use Rattle.chart.proofs.Putting.{put-front, front-put, filled-more}
+use Rattle.printing.proofs.Putting.{put-front, front-put, filled-more}
 
 -- Rocks that agree on the map.
 module _ (w h : ℕ) {R S : ℕ → ℕ → Type 0} (a : Alike (RockOn R w h) (RockOn S w h)) where
@@ -41,10 +43,6 @@ module _ (w h : ℕ) {R S : ℕ → ℕ → Type 0} (a : Alike (RockOn R w h) (R
         picture-is = picture-alike (t .picture-is);
         is = t .is;
       }
-
--- The rocks stamped on a sheet are those that it draws.
-stones-alike : {w h : ℕ} {R : ℕ → ℕ → Type 0} {s : List ℕ} → Draws w h (RockOn R w h) s → Alike (RockOn (Stones w h s) w h) (RockOn R w h)
-stones-alike d x y = (λ r. d .sound x y (r .stone), λ r. record { on = r .on; stone = d .complete x y r })
 
 module _ {w h : ℕ} {s t : List ℕ} {r : Labelled} (l : Labels w h s t r) where
   -- The text of the stamped rocks.

@@ -1,7 +1,7 @@
--- The program has one text for a file: a number is printed in one way, a line is made of its
--- numbers, and a picture's signs are those of the labels.
+-- The program has one text for a file: a line is printed in one way, and a picture's signs are
+-- those of the labels.
 use mathlib.Core.Path.{_≡_, sym, ap, ap₂, _∙_}
-use mathlib.Core.List.{List, [], _++_}
+use mathlib.Core.List.{List, _++_}
 use mathlib.Core.Logic.{_⊎_, inl, inr}
 use Prim.Native.Nat.{ℕ, _+_, _*_, _-_, _<_, _≤_}
 use native.Mathlib.Omega.{arith}
@@ -14,10 +14,8 @@ use Rattle.field.specs.Workings.Counting.{count-one}
 use Rattle.field.specs.Map.{most-markers}
 use Rattle.mapfile.specs.File.{FileRock, MapFile, NoSlot, markersOf}
 use Rattle.mapfile.specs.FileLaws.{map-file-one, file-fault-one, fault-no-map}
+use Rattle.printing.specs.PrintLaws.{printed-one, line-one}
 use Rattle.chart.specs.Promise.{
-  Line,
-  last-number,
-  next-number,
   Sign,
   open-sign,
   rock-sign,
@@ -32,26 +30,6 @@ use Rattle.chart.specs.Promise.{
   shown,
 }
 use Rattle.chart.specs.Parts.{Shown}
-use Rattle.chart.specs.PrintLaws.{printed-one}
-
--- A line has a number.
-line-some : {vs l : List ℕ} → Line vs l → ¬ (vs ≡ [])
-line-some (last-number v d p e f) n = let z : _≡_ {A = ℕ} 0 1 = cc in omega arith
-line-some (next-number v d k p t e f) n = let z : _≡_ {A = ℕ} 0 1 = cc in omega arith
-
-line-one : {vs us l k : List ℕ} → vs ≡ us → Line vs l → Line us k → l ≡ k
-line-one s (last-number v d p e f) (last-number v′ d′ p′ e′ f′) =
-    let same : v ≡ v′ = cc in
-    let number : d ≡ d′ = printed-one p (rw same p′) in
-    f ∙ rw number (sym f′)
-line-one s (last-number v d p e f) (next-number {us} v′ d′ k′ p′ t′ e′ f′) = absurd (line-some t′ (cc))
-line-one s (next-number {us} v d k p t e f) (last-number v′ d′ p′ e′ f′) = absurd (line-some t (cc))
-line-one s (next-number {us = ws} v d k p t e f) (next-number {us = ws′} v′ d′ k′ p′ t′ e′ f′) =
-    let same : v ≡ v′ = cc in
-    let rest : ws ≡ ws′ = cc in
-    let number : d ≡ d′ = printed-one p (rw same p′) in
-    let line : k ≡ k′ = line-one rest t t′ in
-    f ∙ rw (number, line) (sym f′)
 
 sign-one : {b c d : ℕ} → Sign b c → Sign b d → c ≡ d
 sign-one (open-sign e p) (open-sign f q) = p ∙ sym q

@@ -1,45 +1,22 @@
--- What the program's functions put into the output, piece by piece.
+-- What the program's functions put into the output, and the room that they ask.
 use mathlib.Core.Path.{_≡_}
 use mathlib.Core.List.{List, [], _∷_, _++_}
 use Prim.Native.Nat.{ℕ, _+_, _*_, _<_, _≤_}
-use lib.ListN.{length, getD, take, drop}
+use lib.ListN.{length, getD, take}
 use Rattle.field.specs.Map.{side, Sides}
 use Rattle.field.specs.Labels.{Closed, RockOn, Shut, Count}
 use Rattle.field.specs.Groups.{Groups}
 use Rattle.labels.specs.declared.Labelled.{Labelled}
 use Rattle.mapfile.specs.File.{FileRock}
-use Rattle.chart.specs.Promise.{most-bytes, most-printed, line-room, refused, Printed, Line, Picture}
+use Rattle.printing.specs.Printed.{Line}
+use Rattle.mapfile.specs.Following.{most-bytes}
+use Rattle.chart.specs.Promise.{line-room, Picture}
 use Rattle.turning.specs.Turning.{MayTurn}
-
--- A piece stands in the output from a place on, up to its end. All else is as it was.
-pub record Put (out : List ℕ) (at : ℕ) (piece after : List ℕ) (end : ℕ) : Type 0 where
-  pub size : at + length piece ≡ end
-  pub fits : end ≤ length out
-  pub is : after ≡ take at out ++ (piece ++ drop end out)
-
--- Some piece of a kind stands there.
-pub record Puts (P : List ℕ → Type 0) (out : List ℕ) (at : ℕ) (after : List ℕ) (end : ℕ) : Type 0 where
-  pub piece : List ℕ
-  pub right : P piece
-  pub put : Put out at piece after end
-
--- A number as it is printed, and one byte after it.
-pub record NumberThen (v mark : ℕ) (l : List ℕ) : Type 0 where
-  pub digits : List ℕ
-  pub printed : Printed v digits
-  pub few : length digits ≤ most-printed
-  pub is : l ≡ digits ++ mark ∷ []
 
 -- The first line: five numbers.
 pub record FirstLine (w h : ℕ) (r : Labelled) (l : List ℕ) : Type 0 where
   pub line : Line (w ∷ h ∷ r .rocks ∷ r .shut ∷ r .groups ∷ []) l
   pub few : length l ≤ line-room
-
--- "A refusal prints one line, 'refused', a space and the number."
-pub record RefusalLine (n : ℕ) (l : List ℕ) : Type 0 where
-  pub digits : List ℕ
-  pub printed : Printed n digits
-  pub is : l ≡ refused ++ digits ++ 10 ∷ []
 
 -- The sheet has row y whole, and the part of the output just the room for it and LF.
 pub record RowRoom (s : List ℕ) (w y : ℕ) (out : List ℕ) : Type 0 where

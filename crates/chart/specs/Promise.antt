@@ -11,39 +11,17 @@ use Rattle.field.specs.Refusals.{no-slot}
 use Rattle.field.specs.Limits.{side-number}
 use Rattle.field.specs.Labels.{Closed, RockOn, Shut, Label, Count}
 use Rattle.field.specs.Groups.{Groups}
-use Rattle.mapfile.specs.Header.{Digit, valueFrom}
 use Rattle.mapfile.specs.File.{MapFile, FileRock, markersOf, FileFault, NoSlot}
+use Rattle.mapfile.specs.Following.{most-bytes}
+use Rattle.printing.specs.Printed.{number-room, Printed, Line, refused, long}
 
--- "A program takes at most 65,536 input bytes"
-unfoldable pub most-bytes : ℕ
-most-bytes = 65536
-
--- No number of 64 bits has more decimal digits.
-abbrev pub most-printed : ℕ
-most-printed = 20
-
--- Room for a number and one byte after it, for the five numbers of the first line, and for the
--- longest text: that line and the rows of the largest map.
-abbrev pub number-room : ℕ
-number-room = most-printed + 1
-
+-- Room for the five numbers of the first line, and for the longest text: that line and the rows of
+-- the largest map.
 abbrev pub line-room : ℕ
 line-room = 5 * number-room
 
 abbrev pub room : ℕ
 room = line-room + side-number * (side-number + 1)
-
--- A number as it is printed: decimal digits with no leading zeros, and 0 as one digit.
-pub record Printed (v : ℕ) (l : List ℕ) : Type 0 where
-  pub digits : (k : ℕ) → k < length l → Digit (getD l k 0)
-  pub some : 1 ≤ length l
-  pub value : v ≡ valueFrom 0 l
-  pub leading : 2 ≤ length l → ¬ (getD l 0 0 ≡ 48)
-
--- Numbers with a space between, and LF after the last.
-pub data Line : List ℕ → List ℕ → Type 0 where
-  last-number : {vs l : List ℕ} (v : ℕ) (d : List ℕ) → Printed v d → vs ≡ v ∷ [] → l ≡ d ++ 10 ∷ [] → Line vs l
-  next-number : {vs us l : List ℕ} (v : ℕ) (d k : List ℕ) → Printed v d → Line us k → vs ≡ v ∷ us → l ≡ d ++ 32 ∷ k → Line vs l
 
 -- ". open, # rock, o shut", by the label.
 pub data Sign (b c : ℕ) : Type 0 where
@@ -56,13 +34,6 @@ pub record Picture (R : ℕ → ℕ → Type 0) (w h : ℕ) (l : List ℕ) : Typ
   pub size : length l ≡ h * (w + 1)
   pub sign : (r x : ℕ) → r < h → x < w → (b : ℕ) × Label R w h x (h - (r + 1)) b × Sign b (getD l (r * (w + 1) + x) 0)
   pub end : (r : ℕ) → r < h → getD l (r * (w + 1) + w) 0 ≡ 10
-
--- "refused " and "refused long", each with LF after it.
-abbrev pub refused : List ℕ
-refused = 114 ∷ 101 ∷ 102 ∷ 117 ∷ 115 ∷ 101 ∷ 100 ∷ 32 ∷ []
-
-abbrev pub long : List ℕ
-long = 108 ∷ 111 ∷ 110 ∷ 103 ∷ 10 ∷ []
 
 -- The refusal of a file: its fault, or 7 where its rocks are more than the markers that may be in
 -- use.

@@ -9,10 +9,10 @@ use Rattle.field.specs.Refusals.{bad-letters}
 use Rattle.mapfile.specs.Raster.{Digits, ended, skip, zero-digit, one-digit}
 use Rattle.mapfile.specs.Header.{feed}
 use Rattle.mapfile.specs.File.{MapFile, markersOf, Format, plain, raw, Letters, FileFault, no-letters}
-use Rattle.chart.specs.Promise.{most-bytes, Printed, Charted, too-long, fault, not-taken}
-use Rattle.writer.specs.Digits.{digitsOf}
-use Rattle.chart.specs.PrintLaws.{digits-printed}
-use Rattle.chart.specs.Table.{EveryRow, none, one, program-table, example-bits, example-raster, example-file, example-text, rock-file, rock-text, refused-12, refused-long}
+use Rattle.printing.specs.Settled.{refused-12, refused-12-is, refused-long}
+use Rattle.mapfile.specs.Following.{most-bytes}
+use Rattle.chart.specs.Promise.{Charted, too-long, fault, not-taken}
+use Rattle.chart.specs.Table.{EveryRow, none, one, program-table, example-bits, example-raster, example-file, example-text, rock-file, rock-text}
 use Rattle.chart.specs.TableLaws.{plain-map, Small, textOf, text-shown}
 
 -- The next byte of a P1 raster: 0, 1, or LF.
@@ -85,12 +85,8 @@ other-letters file n = no-letters (λ f rest e. n (first f rest e)) refl
     first raw rest e = ap (λ (l : List ℕ). getD l 0 0) e
 
 -- So it is refused 12, if it is not too long.
-printed-12 : Printed 12 (49 ∷ 50 ∷ [])
-unfolding digitsOf
-printed-12 = digits-printed {v = 12} {n = 2} (record { some = omega arith; enough = omega arith; needed = λ l. omega arith })
-
 no-letters-told : (file : List ℕ) → length file ≤ most-bytes → ¬ (getD file 0 0 ≡ 80) → Charted file refused-12
-no-letters-told file l n = not-taken 12 (49 ∷ 50 ∷ []) l (fault (other-letters file n)) printed-12 refl
+no-letters-told file l n = not-taken 12 (refused-12-is .digits) l (fault (other-letters file n)) (refused-12-is .printed) (refused-12-is .is)
 
 most-some : 1 ≤ most-bytes
 unfolding most-bytes

@@ -3,6 +3,7 @@
 use mathlib.Core.List.{List, [], _∷_, _++_}
 use Prim.Native.Nat.{ℕ}
 use lib.ListN.{replicate}
+use Rattle.printing.specs.Settled.{refused-12, refused-long}
 use Rattle.chart.specs.Promise.{Charted}
 
 pub record Row : Type 0 where
@@ -42,14 +43,6 @@ rock-file = 80 ∷ 49 ∷ 10 ∷ 49 ∷ 32 ∷ 49 ∷ 10 ∷ 49 ∷ []
 
 abbrev pub rock-text : List ℕ
 rock-text = (49 ∷ 32 ∷ 49 ∷ 32 ∷ 49 ∷ 32 ∷ 48 ∷ 32 ∷ 49 ∷ 10 ∷ []) ++ (35 ∷ 10 ∷ [])
-
--- "A refusal prints one line, 'refused', a space and the number": 12, with LF after it.
-abbrev pub refused-12 : List ℕ
-refused-12 = 114 ∷ 101 ∷ 102 ∷ 117 ∷ 115 ∷ 101 ∷ 100 ∷ 32 ∷ 49 ∷ 50 ∷ 10 ∷ []
-
--- "of a longer input it prints only 'refused long'", with LF after it.
-abbrev pub refused-long : List ℕ
-refused-long = 114 ∷ 101 ∷ 102 ∷ 117 ∷ 115 ∷ 101 ∷ 100 ∷ 32 ∷ 108 ∷ 111 ∷ 110 ∷ 103 ∷ 10 ∷ []
 
 -- The table. Each row has its sentence above it.
 abbrev pub program-table : List Row

@@ -20,8 +20,10 @@ use Rattle.mapfile.specs.Raster.{Digits}
 use Rattle.mapfile.specs.File.{MapFile, plain, FileRock, markersFrom, markersOf}
 use Rattle.mapfile.specs.PlainLaws.{AllDigits}
 use Rattle.mapfile.specs.RockLaws.{markers-of}
-use Rattle.chart.specs.Promise
-use Rattle.chart.specs.Promise.{most-bytes, Printed, Line, last-number, Picture, Charted, shown}
+use Rattle.printing.specs.Printed as printed
+use Rattle.printing.specs.Printed.{Printed, Line, last-number}
+use Rattle.mapfile.specs.Following.{most-bytes}
+use Rattle.chart.specs.Promise.{Picture, Charted, shown}
 use Rattle.packing.specs.Packing.{pieces}
 use Rattle.chart.specs.Drawing.{signOf, signAt, rowOf, pictureOf}
 use Rattle.chart.specs.DrawingLaws.{picture-drawn}
@@ -77,7 +79,7 @@ line-of a b c d e p q r s t =
     number-next a p (number-next b q (number-next c r (number-next d s (last-number e ((48 + e) ∷ []) (digit-printed e t) refl refl))))
   where
     number-next : (v : ℕ) {us k : List ℕ} → v < 10 → Line us k → Line (v ∷ us) ((48 + v) ∷ 32 ∷ k)
-    number-next v {us} {k} l m = Promise.next-number v ((48 + v) ∷ []) k (digit-printed v l) m refl refl
+    number-next v {us} {k} l m = printed.next-number v ((48 + v) ∷ []) k (digit-printed v l) m refl refl
 
 -- The sheets and numbers of a file's map, computed.
 module _ (w h : ℕ) (bits : List ℕ) where

@@ -3,34 +3,22 @@
 use field::MOST_CROSSINGS;
 use field::MOST_MARKERS;
 use field::SIDE;
+use mapfile::MOST_BYTES;
+use printing::put_long;
+use printing::put_number;
+use printing::put_refusal;
 use turning::turn;
 ghost use Prim.Native.Nat.{_+_, _≤_};
 ghost use lib.ListN.{length, take, drop};
 ghost use mathlib.Core.Path.{_≡_};
-ghost use Rattle.chart.specs.Promise.{number-room, line-room, room, refused, Charted};
-ghost use Rattle.chart.specs.Parts.{Put, Puts, NumberThen, FirstLine, RefusalLine, RowRoom, RowsRoom, BitsShown, MapRoom, FileRoom};
+ghost use Rattle.printing.specs.Parts.{Puts};
+ghost use Rattle.chart.specs.Promise.{line-room, room, Charted};
+ghost use Rattle.chart.specs.Parts.{FirstLine, RowRoom, RowsRoom, BitsShown, MapRoom, FileRoom};
 ghost use Rattle.chart.specs.Drawing.{signOf, rowOf, pictureOf};
-
-// Room for a number and one byte after it: no usize has more than 20 decimal digits.
-const NUMBER: usize = 21;
 
 // Room for the longest text: the five numbers of the first line, and SIDE rows of SIDE signs, each
 // with its LF.
-pub const ROOM: usize = 5 * NUMBER + SIDE * (SIDE + 1);
-
-// "A program takes at most 65,536 input bytes".
-const MOST_BYTES: usize = 65536;
-
-// Writes a number and one byte after it from the place `at` on, and hands back where they end.
-fn put_number(out: &mut [u8], at: usize, v: usize, mark: u8) -> usize
-    requires { ⌜ at + number-room ≤ length (now out) ⌝ }
-    ensures { λ r. ⌜ Puts (NumberThen v mark) (now (out .entry)) at (now (out .exit)) r ⌝ }
-{
-    let end = at + writer::digit_count(v);
-    writer::write_number(&mut out[at..end], v);
-    out[end] = mark;
-    end + 1
-}
+pub const ROOM: usize = 5 * printing::NUMBER + SIDE * (SIDE + 1);
 
 // Writes the first line: width, height, rock crossings, shut crossings, groups.
 fn put_line(out: &mut [u8], w: usize, h: usize, found: labels::Labelled) -> usize
@@ -97,26 +85,6 @@ fn put_map(out: &mut [u8], sheet: &mut [u8], bits: &[u8], w: usize, h: usize) ->
     end
 }
 
-// Writes these bytes at the front of the output, and hands back where they end.
-fn put_bytes(out: &mut [u8], bytes: &[u8]) -> usize
-    requires { ⌜ length (now bytes) ≤ length (now out) ⌝ }
-    ensures { λ r. ⌜ Put (now (out .entry)) 0 (now (bytes .entry)) (now (out .exit)) r ⌝ }
-{
-    for i in 0..bytes.len() {
-        out[i] = bytes[i];
-    }
-    bytes.len()
-}
-
-// Writes a refusal's line: "refused", a space and the number.
-fn put_refusal(out: &mut [u8], n: usize) -> usize
-    requires { ⌜ length refused + number-room ≤ length (now out) ⌝ }
-    ensures { λ r. ⌜ Puts (RefusalLine n) (now (out .entry)) 0 (now (out .exit)) r ⌝ }
-{
-    let number = put_bytes(out, b"refused ");
-    put_number(out, number, n, b'\n')
-}
-
 // Writes the text for a map file of no more bytes than the program takes.
 fn put_file(out: &mut [u8], src: &[u8]) -> usize
     requires { ⌜ FileRoom (now src) (now out) ⌝ }
@@ -141,7 +109,7 @@ pub fn chart(src: &[u8], out: &mut [u8; ROOM]) -> usize
     ensures rest { λ r. ⌜ drop r (now (out .exit)) ≡ drop r (now (out .entry)) ⌝ }
 {
     if MOST_BYTES < src.len() {
-        return put_bytes(out, b"refused long\n");
+        return put_long(out);
     }
     put_file(out, src)
 }

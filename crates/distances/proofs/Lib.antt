@@ -1,5 +1,3 @@
--- What the proofs of several functions share: steps along a way, crossings looked at so far, and
--- assurance.
+-- What the proofs of several functions share: steps along a way, and crossings looked at so far.
 pub mod Ways
 pub mod Looking
-mod Assuring

@@ -12,4 +12,5 @@ pub mod WayHome
 pub mod HomeDrives
 pub mod Meeting
 pub mod LinesLaws
+pub mod DepotLaws
 pub mod Theorems

@@ -1,8 +1,8 @@
--- What document 01 defines. The modules first named, Map to Checks, are meanings: relations in the
+-- What document 01 defines. The modules first named, Map to Depots, are meanings: relations in the
 -- document's words, which a reader must believe. Limits has the numbers that the code's constants
 -- share with them. Workings compute, and each agrees with its meaning; Geometry and Checked have
 -- the theorems that need no code; Table has the settled examples, FurtherTable what they leave
--- open, and CheckTable drawn lists.
+-- open, CheckTable drawn lists, and DepotTable depots.
 pub mod Map
 pub mod Rule
 pub mod Refusals
@@ -15,6 +15,7 @@ pub mod Drives
 pub mod Chooser
 pub mod Checks
 pub mod CrossingLines
+pub mod Depots
 pub mod Limits
 pub mod Workings
 pub mod Geometry
@@ -25,3 +26,5 @@ pub mod FurtherTable
 pub mod Further
 pub mod CheckTable
 pub mod CheckSettled
+pub mod DepotTable
+pub mod DepotSettled

@@ -21,6 +21,8 @@ pub mod DriveLaws
 pub mod RegionLaws
 pub mod Reaching
 pub mod ReachLaws
+pub mod Placing
+pub mod PlacingLaws
 pub mod Checking
 pub mod StepLaws
 pub mod AcceptLaws

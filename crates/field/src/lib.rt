@@ -40,3 +40,21 @@ pub struct Step {
     pub x: usize,
     pub y: usize,
 }
+
+// "each corner as depot (southwest, southeast, northwest, northeast)" (document 02, Req 05)
+pub enum Depot {
+    SouthWest,
+    SouthEast,
+    NorthWest,
+    NorthEast,
+}
+
+// How well a depot is placed (Req 05): "open crossings; those for which the depot is assured; those
+// not assured that have a shortest drive; those with none". The numbers are wide enough for the
+// sums over every map of a run.
+pub struct Placing {
+    pub opens: u64,
+    pub assured: u64,
+    pub driven: u64,
+    pub stranded: u64,
+}

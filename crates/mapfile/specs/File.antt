@@ -37,6 +37,12 @@ abbrev pub RasterFault : Format → ℕ → ℕ → List ℕ → ℕ → Type 0
 RasterFault plain w h l n = PlainFault w h l n
 RasterFault raw w h l n = RawFault w h l n
 
+-- A file's beginning: its letters and its header.
+pub record Begins (file : List ℕ) (f : Format) (w h : ℕ) (body : List ℕ) : Type 0 where
+  pub after : List ℕ
+  pub letters : Letters f file after
+  pub header : Header (w ∷ h ∷ []) after body
+
 -- The bytes are a map of this width and height, with these bits in raster order.
 pub record MapFile (file : List ℕ) (w h : ℕ) (bits : List ℕ) : Type 0 where
   pub format : Format

@@ -15,6 +15,7 @@ use Rattle.mapfile.specs.File.{
   Letters,
   Raster,
   RasterFault,
+  Begins,
   MapFile,
   FileFault,
   no-letters,
@@ -45,12 +46,7 @@ pub raster-fault-no-raster : (f : Format) (w h n : ℕ) (l bits : List ℕ) → 
 raster-fault-no-raster plain w h n l bits a b = plain-fault-no-raster a b
 raster-fault-no-raster raw w h n l bits a b = raw-fault-no-raster a b
 
--- A file's beginning: its letters and its header.
-pub record Begins (file : List ℕ) (f : Format) (w h : ℕ) (body : List ℕ) : Type 0 where
-  pub after : List ℕ
-  pub letters : Letters f file after
-  pub header : Header (w ∷ h ∷ []) after body
-
+-- A file's beginning.
 begins : {file body : List ℕ} (f : Format) {w h : ℕ} (after : List ℕ) → Letters f file after → Header (w ∷ h ∷ []) after body → Begins file f w h body
 begins f after l k = record { after = after; letters = l; header = k }
 

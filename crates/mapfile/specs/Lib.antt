@@ -4,16 +4,21 @@ pub mod Raster
 pub mod File
 pub mod Turned
 pub mod Written
+pub mod Following
 pub mod HeaderWorking
 pub mod HeaderSound
 pub mod HeaderComplete
 pub mod HeaderLaws
 pub mod HeadingWorking
+pub mod HeaderCut
 pub mod RasterWorking
 pub mod RasterLaws
 pub mod PlainSound
 pub mod FileLaws
 pub mod FileWorking
+pub mod FollowingLaws
+pub mod Pieces
+pub mod FollowingOutcome
 pub mod TurnedLaws
 pub mod MarkerLaws
 pub mod RockLaws
@@ -24,3 +29,5 @@ pub mod Limits
 pub mod Table
 pub mod Rows
 pub mod Settled
+pub mod FollowingTable
+pub mod FollowingSettled

@@ -5,6 +5,9 @@ mod plain;
 mod raw;
 
 ghost use mathlib.Core.Path.{_≡_};
+ghost use Prim.Native.Nat.{ℕ, _≤_};
+ghost use Rattle.field.specs.Map.{side};
+ghost use Rattle.mapfile.specs.Raster.{rowBytes};
 ghost use Rattle.raster.specs.RasterParts.{withFault, BitRoom, ReadAs, formatOf};
 
 // What reading a raster finds: the number of its first fault, or 0; and how many of its bits are
@@ -12,6 +15,14 @@ ghost use Rattle.raster.specs.RasterParts.{withFault, BitRoom, ReadAs, f
 pub struct Judged {
     pub fault: u8,
     pub rocks: usize,
+}
+
+// How many bytes a packed row has: eight crossings to a byte.
+pub fn row_bytes(w: usize) -> usize
+    requires { ⌜ w ≤ side ⌝ }
+    ensures { λ r. ⌜ r ≡ rowBytes w ⌝ }
+{
+    (w + 7) / 8
 }
 
 // A raster that is refused for this fault.

@@ -1,6 +1,7 @@
 // The P4 raster: "each row is packed eight crossings to a byte, highest bit westmost, 1 a rock".
 use super::Judged;
 use super::faulty;
+use super::row_bytes;
 use field::refusals::LONG_RASTER;
 use field::refusals::SHORT_RASTER;
 ghost use mathlib.Core.Path.{_≡_};
@@ -10,14 +11,6 @@ ghost use Rattle.field.specs.Map.{side};
 ghost use Rattle.mapfile.specs.Raster.{rowBytes};
 ghost use Rattle.mapfile.specs.File.{raw};
 ghost use Rattle.raster.specs.RasterParts.{rowBit, BitRoom, ReadAs, MayReadRow, RowRead, MayReadRows, RowsRead};
-
-// How many bytes a packed row has: eight crossings to a byte.
-fn row_bytes(w: usize) -> usize
-    requires { ⌜ w ≤ side ⌝ }
-    ensures { λ r. ⌜ r ≡ rowBytes w ⌝ }
-{
-    (w + 7) / 8
-}
 
 // The bit of column x in a packed row: "highest bit westmost, 1 a rock".
 fn bit_at(row: &[u8], x: usize) -> u8

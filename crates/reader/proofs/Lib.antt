@@ -1,4 +1,3 @@
 -- Laws that the proofs of the reader's functions share.
 mod FirstTwo
-mod Heading
 mod Joining

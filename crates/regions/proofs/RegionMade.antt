@@ -15,6 +15,7 @@ use Rattle.field.specs.Workings.GridLaws.{Toward, gap-turned, gap-detour, near-
 use Rattle.field.specs.Workings.DriveLaws.{hop, has-drive-open, has-drive-turned, has-drive-step}
 use Rattle.field.specs.Workings.RegionLaws.{region-split, has-drive-in}
 use Rattle.regions.specs.Passes.{Spanned, Pass, free}
+use Rattle.regions.specs.Reaching.{Reached}
 use Rattle.sheets.specs.Promise.{Wiped}
 use Rattle.regions.proofs.WayLaws.{way-turned}
 use Rattle.regions.proofs.LookLaws.{zero-bit, other-bit}
@@ -63,13 +64,23 @@ module _ (w h : ℕ) (s : List ℕ) (sx sy dx dy : ℕ) where
   carries x y a b k f t v =
       let o = has-drive-open w h C v in (o, has-drive-step w h C .1 (hop x y o (near-turned (toward-near t)) (farther k t) (f .1)))
 
-  module _ {g g₀ g₁ g₂ : List ℕ} (z : Wiped g g₀) (p : Pass w h sx sy (Spanned sx sy dx dy) (free s w) g₀ g₁)
-      (q : Pass w h dx dy (Spanned dx dy sx sy) (at g₁ w) g₁ g₂) where
+  -- What the pass from s leaves.
+  module _ {g₀ g₁ : List ℕ} (p : Pass w h sx sy (Spanned sx sy dx dy) (free s w) g₀ g₁) where
     spread-means : (x y : ℕ) → On w h x y → Spanned sx sy dx dy x y → InOut (FromS x y) (at g₁ w x y)
     spread-means = pass-means w h C sx sy dx dy (Open w h C) (λ x y o. o) (λ x y a b k o t v. has-drive-open w h C v) (free s w) (λ x y o k. free-tells x y o) g₀ g₁ p
 
+    pub reach-made : Reached w h s sx sy dx dy g₀ g₁
+    reach-made =
+        record {
+          size = p .size;
+          reached = λ x y o k. in-out-map (λ f. f .1) (λ v. (has-drive-open w h C v, v)) (spread-means x y o k);
+          other = p .other;
+        }
+
+  module _ {g g₀ g₁ g₂ : List ℕ} (z : Wiped g g₀) (p : Pass w h sx sy (Spanned sx sy dx dy) (free s w) g₀ g₁)
+      (q : Pass w h dx dy (Spanned dx dy sx sy) (at g₁ w) g₁ g₂) where
     sift-means : (x y : ℕ) → On w h x y → Spanned dx dy sx sy x y → InOut (FromS x y × HasDrive w h C x y dx dy) (at g₂ w x y)
-    sift-means = pass-means w h C dx dy sx sy FromS (λ x y f. f .0) carries (at g₁ w) (λ x y o k. spread-means x y o (spanned-turned k)) g₁ g₂ q
+    sift-means = pass-means w h C dx dy sx sy FromS (λ x y f. f .0) carries (at g₁ w) (λ x y o k. spread-means p x y o (spanned-turned k)) g₁ g₂ q
 
     inside : (x y : ℕ) → On w h x y → Spanned sx sy dx dy x y → InOut (InRegion w h C sx sy dx dy x y) (at g₂ w x y)
     inside x y o k = in-out-map to from (sift-means x y o (spanned-turned k))

@@ -3,6 +3,7 @@ pub mod looks; // looks.rt: looks at a sheet of marks
 mod passes; // passes.rt: the two passes that make the region
 
 ghost use Rattle.regions.specs.Promise.{MayFind, Regioned};
+ghost use Rattle.regions.specs.Reaching.{Reached};
 
 // What asking for the region finds: an end closed (8), no shortest drive (9), or some.
 pub enum Found {
@@ -43,4 +44,15 @@ pub fn region(
         return Found::Nowhere;
     }
     Found::Somewhere
+}
+
+// One pass alone: of each crossing of the rectangle that (ex, ey) and (fx, fy) span, whether it has
+// a shortest drive to (ex, ey), 1 or 0. With (ex, ey) a corner of the map and (fx, fy) the opposite
+// one that is the whole map, at the cost of one look at each crossing and its neighbours, and the
+// sheet need not be wiped first.
+pub fn reach(s: &[u8], w: usize, h: usize, ex: usize, ey: usize, fx: usize, fy: usize, g: &mut [u8])
+    requires { ⌜ MayFind w h (now s) (now g) ex ey fx fy ⌝ }
+    ensures { λ _. ⌜ Reached w h (now (s .entry)) ex ey fx fy (now (g .entry)) (now (g .exit)) ⌝ }
+{
+    passes::spread(s, w, h, ex, ey, fx, fy, g);
 }

@@ -7,6 +7,8 @@
 //!     bench counted CALL...               makes each row's call once and nine times, on every side, with marks between, for a count of
 //!                                         instructions; of these calls alone where any are named
 //!     bench show MAP SIDE                 a map and its labels
+//!     bench depots PROGRAM                maps a second of the depots program's whole run beside plain Rust's
+//!     bench plain-depots                  that plain Rust: maps from standard input
 // The calls take what document 01 lends them.
 #![allow(clippy::too_many_arguments)]
 
@@ -17,6 +19,7 @@ mod library;
 mod maps;
 mod plain;
 mod room;
+mod streams;
 mod timing;
 
 use calls::{clear_again, enter_again, look_again, repeat, stack_again, Answer, Call, CALLS};
@@ -38,15 +41,24 @@ fn main() -> ExitCode {
         ["counted", ..] => counted(&words[1..]),
         ["one", call, side, map, which, count] => one(call, side, map, which, count),
         ["show", map, side] => show(map, side),
+        ["depots", program] => streams::times(program).map_err(told).ok(),
+        ["plain-depots"] => plain::depots::run(std::io::stdin().lock(), std::io::stdout().lock())
+            .map_err(told)
+            .ok(),
         _ => None,
     };
     if done.is_none() {
         eprintln!(
-            "usage: bench [rows | counted CALL... | one CALL SIDE MAP library|plain|block|stack|looking COUNT | show MAP SIDE]"
+            "usage: bench [rows | counted CALL... | one CALL SIDE MAP library|plain|block|stack|looking COUNT | show MAP SIDE | depots PROGRAM | plain-depots]"
         );
         return ExitCode::FAILURE;
     }
     ExitCode::SUCCESS
+}
+
+/// Says why reading, writing or a program's start failed.
+fn told(error: std::io::Error) {
+    eprintln!("bench: {error}");
 }
 
 /// Every row: a call's name, the call, a side and a map's name.

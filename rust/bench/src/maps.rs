@@ -28,8 +28,8 @@ pub fn rocks(name: &str, side: usize) -> Option<Vec<bool>> {
     };
     match name {
         "empty" => each(|_, _| false),
-        "sparse" => Some(drawn(side, 5)),
-        "dense" => Some(drawn(side, 30)),
+        "sparse" => Some(drawn(side, 5, SEED)),
+        "dense" => Some(drawn(side, 30, SEED)),
         "full" => each(|_, _| true),
         "diagonal" => each(|x, y| x == y),
         "chequerboard" => each(|x, y| (x + y) % 2 == 0),
@@ -43,11 +43,14 @@ pub fn rocks(name: &str, side: usize) -> Option<Vec<bool>> {
     }
 }
 
-/// A map with so many in a hundred crossings with a rock, rounded up: the first crossings of a shuffle with a fixed seed.
-fn drawn(side: usize, hundredth: usize) -> Vec<bool> {
+/// The seed of the maps that are drawn once.
+const SEED: u64 = 0x9e37_79b9_7f4a_7c15;
+
+/// A map with so many in a hundred crossings with a rock, rounded up: the first crossings of a shuffle with this seed.
+pub fn drawn(side: usize, hundredth: usize, seed: u64) -> Vec<bool> {
     let size = side * side;
     let mut order: Vec<usize> = (0..size).collect();
-    let mut state: u64 = 0x9e37_79b9_7f4a_7c15;
+    let mut state = seed;
     for last in (1..size).rev() {
         state = state
             .wrapping_mul(6364136223846793005)

@@ -1,14 +1,16 @@
 //! Compares the proved library, call by call and byte by byte, with the independent program over
-//! random cases; and the labelling program with the independent text.
+//! random cases; and the labelling program and the depots program with the independent texts.
 //!
-//!     compare [CASES] [SEED] [FIRST] [--label PATH] [--aloud]
+//!     compare [CASES] [SEED] [FIRST] [--label PATH] [--depots PATH] [--aloud]
 //!
 //! CASES cases are made from SEED, beginning with number FIRST. A case depends on SEED and its
 //! number alone, so a difference is made again by running its number alone. `--label PATH`, or the
-//! variable GRAINBODKIN_LABEL, names the labelling program. `--aloud` prints each number before its
-//! call, to find a call that does not come back. The status is 0 only without a difference and, in
-//! a whole run, with everything reached.
+//! variable GRAINBODKIN_LABEL, names the labelling program, `--depots PATH` the depots program.
+//! `--aloud` prints each number before its call, to find a call that does not come back. The status
+//! is 0 only without a difference and, in a whole run, with everything reached.
 mod case;
+mod child;
+mod depots;
 mod drawings;
 mod edits;
 mod expected;
@@ -27,6 +29,7 @@ mod places;
 mod program;
 mod random;
 mod report;
+mod streams;
 mod tally;
 
 use options::Options;
@@ -66,6 +69,11 @@ fn main() -> ExitCode {
         None => program::Runs::default(),
     };
     faults.extend(runs.faults);
+    let depots = match &options.depots {
+        Some(path) => depots::compare(path, options.seed),
+        None => program::Runs::default(),
+    };
+    faults.extend(depots.faults);
     if options.cases >= tally::WHOLE {
         let journeys = journeys::run(options.seed);
         journeys.print();
@@ -74,15 +82,16 @@ fn main() -> ExitCode {
     for fault in &faults {
         println!("compare: {fault}");
     }
+    let differences = differing + runs.differences + depots.differences;
     println!(
-        "compare: {} cases, {} successes, {} refusals, {} runs of the labelling program, {} differences",
+        "compare: {} cases, {} successes, {} refusals, {} runs of the labelling program, {} of the depots program, {differences} differences",
         tally.cases,
         tally.successes,
         tally.cases - tally.successes,
         runs.runs,
-        differing + runs.differences
+        depots.runs
     );
-    let good = differing + runs.differences == 0 && faults.is_empty();
+    let good = differences == 0 && faults.is_empty();
     ExitCode::from(u8::from(!good))
 }
 

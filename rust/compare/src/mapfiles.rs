@@ -90,9 +90,14 @@ pub fn number(random: &mut Random, value: usize) -> Vec<u8> {
     format!("{}{digits}", "0".repeat(zeros)).into_bytes()
 }
 
-/// A file that is against no rule, of any map.
+/// A file that is against no rule, of any map: plain or raw.
 pub fn parts(random: &mut Random, map: Map, rocks: &[Crossing]) -> Parts {
     let plain = random.percent(50);
+    parts_as(random, map, rocks, plain)
+}
+
+/// The same, plain or raw as is asked.
+pub fn parts_as(random: &mut Random, map: Map, rocks: &[Crossing], plain: bool) -> Parts {
     let mut parts = Parts {
         letters: if plain { *b"P1" } else { *b"P4" }.to_vec(),
         before_width: separator(random),

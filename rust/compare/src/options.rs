@@ -10,6 +10,7 @@ pub struct Options {
     pub seed: u64,
     pub first: u64,
     pub label: Option<PathBuf>,
+    pub depots: Option<PathBuf>,
     pub aloud: bool,
 }
 
@@ -20,6 +21,7 @@ impl Options {
             seed: of_clock(),
             first: 0,
             label: std::env::var_os("GRAINBODKIN_LABEL").map(PathBuf::from),
+            depots: None,
             aloud: false,
         };
         let mut numbers = Vec::new();
@@ -30,6 +32,10 @@ impl Options {
                     let path = words.next().ok_or("--label wants a path")?;
                     options.label = Some(PathBuf::from(path));
                 }
+                "--depots" => {
+                    let path = words.next().ok_or("--depots wants a path")?;
+                    options.depots = Some(PathBuf::from(path));
+                }
                 "--aloud" => options.aloud = true,
                 _ => numbers.push(
                     word.parse::<u64>()
@@ -38,7 +44,8 @@ impl Options {
             }
         }
         if numbers.len() > 3 {
-            return Err("compare [CASES] [SEED] [FIRST] [--label PATH] [--aloud]".to_string());
+            let usage = "compare [CASES] [SEED] [FIRST] [--label PATH] [--depots PATH] [--aloud]";
+            return Err(usage.to_string());
         }
         let mut numbers = numbers.into_iter();
         options.cases = numbers.next().unwrap_or(options.cases);

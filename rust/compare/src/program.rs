@@ -1,14 +1,12 @@
 //! The labelling program against the independent text: random and damaged files on its standard
 //! input, whole or in small pieces.
+use crate::child::{output, Pieces};
 use crate::mapfiles;
 use crate::random::Random;
 use crate::report::shortened;
 use independent::text::{label_text, LONGEST};
 use std::collections::BTreeMap;
-use std::io::{Read, Write};
 use std::path::Path;
-use std::process::{ChildStdin, Command, Stdio};
-use std::time::Duration;
 
 /// So many runs with random files, beside one for each named input.
 const RANDOM_RUNS: u64 = 500;
@@ -130,7 +128,12 @@ fn one_run(
         _ => "labels".to_string(),
     };
     *kinds.entry(kind).or_insert(0) += 1;
-    let seen = match output(path, input, pieces) {
+    let cut = if pieces {
+        Pieces::Of(vec![input.len() / 100 + 1])
+    } else {
+        Pieces::Whole
+    };
+    let seen = match output(path, input, &cut) {
         Ok(seen) => seen,
         Err(message) => format!("no output: {message}").into_bytes(),
     };
@@ -143,48 +146,5 @@ fn one_run(
         println!("  input, {} bytes: {}", input.len(), shortened(input));
         println!("  independent: {}", expected.as_bytes().escape_ascii());
         println!("  program:     {}", seen.escape_ascii());
-    }
-}
-
-/// The program's whole output for an input. An end by a signal, or anything on standard error, is
-/// no output.
-fn output(path: &Path, input: &[u8], pieces: bool) -> Result<Vec<u8>, String> {
-    let mut child = Command::new(path)
-        .stdin(Stdio::piped())
-        .stdout(Stdio::piped())
-        .stderr(Stdio::piped())
-        .spawn()
-        .map_err(|e| format!("{}: {e}", path.display()))?;
-    let stdin = child.stdin.take().ok_or("no standard input")?;
-    let mut stdout = child.stdout.take().ok_or("no standard output")?;
-    let mut seen = Vec::new();
-    std::thread::scope(|scope| {
-        scope.spawn(|| feed(stdin, input, pieces));
-        stdout.read_to_end(&mut seen).map_err(|e| e.to_string())
-    })?;
-    let end = child.wait_with_output().map_err(|e| e.to_string())?;
-    match (end.status.code(), end.stderr.is_empty()) {
-        (None, _) => Err(format!("{}", end.status)),
-        (_, false) => Err(format!("on standard error: {}", end.stderr.escape_ascii())),
-        _ => Ok(seen),
-    }
-}
-
-/// Writes the input at once, or in some hundred pieces with a pause after each, so that the program
-/// reads less than it asks for. The program may stop reading before the end; then the rest is not
-/// wanted.
-fn feed(mut stdin: ChildStdin, input: &[u8], pieces: bool) {
-    let size = if pieces {
-        input.len() / 100 + 1
-    } else {
-        input.len().max(1)
-    };
-    for piece in input.chunks(size) {
-        if stdin.write_all(piece).and_then(|()| stdin.flush()).is_err() {
-            return;
-        }
-        if pieces {
-            std::thread::sleep(Duration::from_micros(150));
-        }
     }
 }

@@ -43,28 +43,30 @@ pub fn clear(on: &Labelled, c: Crossing, way: Way) -> u8 {
     NONE
 }
 
-/// Whether home's distance that way is enough for an offset: "offset at most the distance" (Req 02).
-fn enough(on: &Labelled, home: Crossing, way: Way, offset: usize) -> bool {
-    let distance = clear(on, home, way);
+/// A crossing's distances, east, south, west, north.
+pub fn four(on: &Labelled, c: Crossing) -> [u8; 4] {
+    WAYS.map(|way| clear(on, c, way))
+}
+
+/// Whether a distance of home is enough for an offset: "offset at most the distance" (Req 02).
+fn enough(distance: u8, offset: usize) -> bool {
     offset == 0 || distance == NONE || offset <= usize::from(distance)
+}
+
+/// Whether home, with its four distances, is assured for a place.
+pub fn is_assured_by(four: [u8; 4], on: &Labelled, home: Crossing, place: Crossing) -> bool {
+    let [east, south, west, north] = four;
+    let east_west = if place.x > home.x { east } else { west };
+    let north_south = if place.y > home.y { north } else { south };
+    on.open(home)
+        && on.open(place)
+        && enough(east_west, place.x.abs_diff(home.x))
+        && enough(north_south, place.y.abs_diff(home.y))
 }
 
 /// Whether home is assured for a place.
 pub fn is_assured(on: &Labelled, home: Crossing, place: Crossing) -> bool {
-    let east_west = if place.x > home.x {
-        Way::East
-    } else {
-        Way::West
-    };
-    let north_south = if place.y > home.y {
-        Way::North
-    } else {
-        Way::South
-    };
-    on.open(home)
-        && on.open(place)
-        && enough(on, home, east_west, place.x.abs_diff(home.x))
-        && enough(on, home, north_south, place.y.abs_diff(home.y))
+    is_assured_by(four(on, home), on, home, place)
 }
 
 /// The four distances of the one place asked about.
@@ -80,7 +82,7 @@ pub fn distances(asking: Asking) -> Four {
     let on = asking.labelled();
     Four {
         refusal,
-        four: WAYS.map(|way| clear(&on, asking.places[0], way)),
+        four: four(&on, asking.places[0]),
         labels: on.sheet(),
     }
 }

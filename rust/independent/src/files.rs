@@ -112,24 +112,44 @@ fn plain(map: Map, raster: &[u8]) -> Result<Vec<bool>, u8> {
     Ok(digits)
 }
 
+/// The bytes of a raw raster: whole bytes a row.
+pub fn raw_bytes(map: Map) -> usize {
+    map.width.div_ceil(8) * map.height
+}
+
 /// A raw raster as its bits in order without the pad bits, or the fault.
 fn raw(map: Map, raster: &[u8]) -> Result<Vec<bool>, u8> {
-    let row_bytes = map.width.div_ceil(8);
-    let bytes = row_bytes * map.height;
-    if raster.len() < bytes {
+    if raster.len() < raw_bytes(map) {
         return Err(14);
     }
-    if raster.len() > bytes {
+    if raster.len() > raw_bytes(map) {
         return Err(15);
     }
+    Ok(raw_bits(map, raster))
+}
+
+/// The bits of so many bytes as the raw raster has.
+pub fn raw_bits(map: Map, raster: &[u8]) -> Vec<bool> {
     let mut bits = Vec::new();
-    for row in raster.chunks(row_bytes) {
+    for row in raster.chunks(map.width.div_ceil(8)) {
         let packed = row
             .iter()
             .flat_map(|byte| (0..8).rev().map(move |bit| byte >> bit & 1 == 1));
         bits.extend(packed.take(map.width));
     }
-    Ok(bits)
+    bits
+}
+
+/// The rocks of a raster's marks, in raster order: the first row is the northmost.
+pub fn rocks_of(map: Map, marks: Vec<bool>) -> Vec<Crossing> {
+    let places = (0..map.height)
+        .rev()
+        .flat_map(|y| (0..map.width).map(move |x| Crossing::new(x, y)));
+    places
+        .zip(marks)
+        .filter(|(_, rock)| *rock)
+        .map(|(c, _)| c)
+        .collect()
 }
 
 /// The map that a file is, or the refusal: 12, 13 in the header, 1, then 13, 14 or 15 in the
@@ -149,15 +169,7 @@ pub fn picture(file: &[u8]) -> Result<Picture, u8> {
         Raster::Plain => plain(map, &file[at..])?,
         Raster::Raw => raw(map, &file[at..])?,
     };
-    // The first raster row is the northmost.
-    let places = (0..map.height)
-        .rev()
-        .flat_map(|y| (0..map.width).map(move |x| Crossing::new(x, y)));
-    let rocks = places
-        .zip(marks)
-        .filter(|(_, rock)| *rock)
-        .map(|(c, _)| c)
-        .collect();
+    let rocks = rocks_of(map, marks);
     Ok(Picture { map, rocks })
 }
 

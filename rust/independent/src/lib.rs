@@ -10,9 +10,11 @@
 
 pub mod asking;
 pub mod checks;
+pub mod depots;
 pub mod distances;
 pub mod drives;
 pub mod files;
+pub mod following;
 pub mod hops;
 pub mod labels;
 pub mod map;

@@ -1,22 +1,20 @@
 -- `chart` meets its promise: a file that is too long is told so, and any other gets its text.
 use native.Mathlib.Omega.{arith}
 use Rattle.field.specs.Map.{side}
-use Rattle.chart.specs.Promise.{most-bytes, too-long}
-use Rattle.chart.proofs.Putting.{put-told}
+use Rattle.mapfile.specs.Following.{most-bytes}
+use Rattle.chart.specs.Promise.{too-long}
+use Rattle.printing.proofs.Putting.{put-told}
 use borrow.Author.Needs.{needs}
 use Rattle.chart.proofs.chart.Statement.{statement}
 use Rattle.chart.proofs.chart.Tie as tie
 
-slice-aggregate-put-bytes : tie.Need-slice-aggregate-put-bytes
-slice-aggregate-put-bytes c = search needs
-
-put-bytes-requires : tie.Need-put-bytes-requires
-put-bytes-requires c κs = search needs
+put-long-requires : tie.Need-put-long-requires
+put-long-requires c κs = search needs
 
 returns : tie.Need-returns
 unfolding most-bytes
 returns c =
-    let p = c .put-bytes .ensures in
+    let p = c .put-long .ensures in
     let t = put-told p in
     ((omega (arith, p .fits), too-long (omega arith) (t .0)), t .1)
 
@@ -33,4 +31,4 @@ returns-2 c =
 pub chart-spec : {M : Type 1} → statement M
 chart-spec =
     tie.close
-    (tie.spec slice-aggregate-put-bytes put-bytes-requires returns put-file-requires returns-2)
+    (tie.spec put-long-requires returns put-file-requires returns-2)

@@ -1,11 +1,12 @@
 -- `put_line` meets its contract: five numbers stand one after the other, each where the one before
 -- ends.
-use Rattle.chart.specs.Promise.{number-room}
+use Rattle.printing.specs.Printed.{number-room}
 use native.Mathlib.Omega.{arith}
 use mathlib.Core.Path.{_≡_, _∙_}
 use Prim.Native.Nat.{_*_, _≤_}
 use lib.ListN.{length}
-use Rattle.chart.proofs.Lines.{number-ends, line-put}
+use Rattle.printing.proofs.Lines.{number-ends}
+use Rattle.chart.proofs.Lines.{line-put}
 use borrow.Author.Needs.{needs}
 use Rattle.chart.proofs.put_line.Statement.{statement}
 use Rattle.chart.proofs.put_line.Tie as tie

@@ -5,9 +5,9 @@ use native.Mathlib.Omega.{arith}
 use Prim.Native.Nat.{_+_, _*_, _≤_}
 use lib.ListN.{length}
 use Rattle.field.specs.Map.{side}
-use Rattle.chart.proofs.Putting.{part-put}
+use Rattle.printing.proofs.Putting.{part-put}
 use Rattle.chart.proofs.Showing.{map-put}
-use Rattle.chart.proofs.Turning.{turned-stamped, turned-draws}
+use Rattle.turning.specs.Stamping.{turned-stamped, turned-draws}
 use borrow.Author.Needs.{needs}
 use Rattle.chart.proofs.put_map.Statement.{statement}
 use Rattle.chart.proofs.put_map.Tie as tie

@@ -1,6 +1,6 @@
 -- `assured` meets its contract: both ends open, and on each axis the test of home's distances.
 use borrow.Author.Needs.{needs}
-use Rattle.distances.proofs.Assuring.{told-no, unmarked-open, marked-closed, row-fails, column-tells}
+use Rattle.distances.specs.Assuring.{told-no, unmarked-open, marked-closed, row-fails, column-tells}
 use Rattle.distances.proofs.assured.Statement.{statement}
 use Rattle.distances.proofs.assured.Tie as tie
 

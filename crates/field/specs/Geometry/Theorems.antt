@@ -5,6 +5,7 @@ use mathlib.Core.Path.{_≡_}
 use mathlib.Core.List.{List}
 use mathlib.Core.Logic.{_↔_}
 use Prim.Native.Nat.{ℕ, _+_, _≤_}
+use Rattle.field.specs.declared.Placing.{Placing}
 use Rattle.field.specs.Map.{Sides, On, at, Apart, dist}
 use Rattle.field.specs.Labels.{Closed, closed-stable, closed-on-map, smallest, Open, Label, is-open, is-rock, is-shut, LabelSheet, Count}
 use Rattle.field.specs.Groups.{Linked, Lowest, Groups, GroupsApart}
@@ -12,6 +13,7 @@ use Rattle.field.specs.Distances.{Assured}
 use Rattle.field.specs.Hops.{Permitted, There, Taken}
 use Rattle.field.specs.Drives.{ShortestDrive, HasDrive}
 use Rattle.field.specs.CrossingLines.{OpenColumn, OpenRow, Lines, HasLines, DrivenBy}
+use Rattle.field.specs.Depots.{HowPlaced}
 use Rattle.field.specs.Geometry.Shapes.{Filled, Rectangle, rectanglesApart, Corner, Stage}
 use Rattle.field.specs.Geometry.Links
 use Rattle.field.specs.Geometry.Rectangles
@@ -22,6 +24,7 @@ use Rattle.field.specs.Geometry.WayHome
 use Rattle.field.specs.Geometry.HomeDrives
 use Rattle.field.specs.Geometry.Meeting
 use Rattle.field.specs.Geometry.LinesLaws
+use Rattle.field.specs.Geometry.DepotLaws
 
 -- R tells the rocks, and of each crossing it can be told whether it is closed.
 module _ (R : ℕ → ℕ → Type 0) (w h : ℕ) (dec : (x y : ℕ) → Dec (Closed R w h x y)) where
@@ -153,6 +156,14 @@ module _ (R : ℕ → ℕ → Type 0) (w h : ℕ) (sides : Sides w h) (dec : (x 
 
   pub lines-one : {sx sy dx dy c r c′ r′ : ℕ} → Lines w h D sx sy dx dy c r → Lines w h D sx sy dx dy c′ r′ → (c ≡ c′) × (r ≡ r′)
   lines-one = LinesLaws.lines-one
+
+  -- A depot's four numbers (Req 05): "The last three add up to the first." Two outcomes for one
+  -- depot are equal.
+  pub placed-adds : (dx dy : ℕ) {p : Placing} → HowPlaced w h D dx dy p → p .assured + p .driven + p .stranded ≡ p .opens
+  placed-adds = DepotLaws.placed-adds w h sides D (closed-on-map R w h) (closed-stable R w h) dec
+
+  pub placed-one : (dx dy : ℕ) {p q : Placing} → HowPlaced w h D dx dy p → HowPlaced w h D dx dy q → p ≡ q
+  placed-one dx dy = DepotLaws.placed-one
 
 -- What the smallest set excludes: on a map without rocks, to close anything.
 module _ (R : ℕ → ℕ → Type 0) (w h : ℕ) (no-rocks : (x y : ℕ) → On w h x y → ¬ R x y) where

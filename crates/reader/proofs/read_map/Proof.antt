@@ -9,8 +9,8 @@ use Rattle.field.specs.Limits.{most-crossings-is, crossings-few}
 use Rattle.mapfile.specs.Header.{Header}
 use Rattle.raster.specs.RasterParts.{formatOf}
 use Rattle.header.specs.Answers.{answered-no}
+use Rattle.header.specs.Found.{head-found, head-missing}
 use Rattle.reader.proofs.FirstTwo.{letters-long}
-use Rattle.reader.proofs.Heading.{head-found, head-missing}
 use Rattle.reader.proofs.Joining.{part-is, map-no-header, map-no-sides, map-reads}
 use borrow.Author.Needs.{needs}
 use Rattle.reader.proofs.read_map.Statement.{statement}

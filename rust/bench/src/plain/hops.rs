@@ -9,7 +9,7 @@ fn enough(offset: usize, distance: u8) -> bool {
 }
 
 /// Whether one axis lets home at m be assured for the place at p, with home's distances upwards and downwards on it.
-fn axis(up: u8, down: u8, m: usize, p: usize) -> bool {
+pub fn axis(up: u8, down: u8, m: usize, p: usize) -> bool {
     if m < p {
         enough(p - m, up)
     } else if p < m {

@@ -13,6 +13,22 @@ pub fn label(markers: &[Marker], w: usize, h: usize, sheet: &mut [u8]) -> Labell
     for m in markers {
         rocks[m.y as usize + 1] |= 1 << (m.x % 64);
     }
+    label_rows(rocks, w, h, sheet)
+}
+
+/// Labels the map of a raster's bits, one byte a crossing, from the north.
+pub fn label_bits(bits: &[u8], w: usize, h: usize, sheet: &mut [u8]) -> Labelling {
+    let mut rocks: Rows = [0; SIDE + 2];
+    for (row, word) in bits.chunks_exact(w).rev().zip(&mut rocks[1..]) {
+        for (x, &b) in row.iter().enumerate() {
+            *word |= u64::from(b) << (x % 64);
+        }
+    }
+    label_rows(rocks, w, h, sheet)
+}
+
+/// Labels the map with these rocks.
+fn label_rows(rocks: Rows, w: usize, h: usize, sheet: &mut [u8]) -> Labelling {
     let mut closed = rocks;
     close(&mut closed, u64::MAX >> (64 - w), h);
     for (y, row) in sheet.chunks_exact_mut(w).enumerate() {

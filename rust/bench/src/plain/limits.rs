@@ -41,5 +41,9 @@ pub const BAD_LARGEST: u8 = 18;
 /// The largest value of a picture.
 pub const LARGEST: usize = 255;
 
+/// The bytes that bound a map of a stream, and the maps of a run.
+pub const MOST_BYTES: usize = 65_536;
+pub const MOST_MAPS: usize = 65_535;
+
 /// A crossing, or a place asked.
 pub type Place = (usize, usize);

@@ -4,14 +4,17 @@
 #![forbid(unsafe_code)]
 
 mod checks;
+pub mod depots;
 mod distances;
 mod drives;
+mod following;
 mod header;
 mod hops;
 mod judging;
 mod labelling;
 mod limits;
 mod pictures;
+mod placing;
 mod raster;
 mod reader;
 mod records;

@@ -29,17 +29,22 @@ fn span((ex, ey): Place, (fx, fy): Place, mut visit: impl FnMut(usize, usize)) {
     }
 }
 
+/// Marks what a shortest drive from s reaches inside the rectangle that s and d span.
+pub fn reach(labels: &[u8], w: usize, s: Place, d: Place, g: &mut [u8]) {
+    g.fill(0);
+    span(s, d, |x, y| {
+        let i = y * w + x;
+        g[i] = (labels[i] == OPEN && backed(g, w, s, (x, y))) as u8;
+    });
+}
+
 /// The region from s to d into a lent sheet. With an end closed: refusal 8, and the sheet stays; with no shortest drive: 9, all 0.
 pub fn region(labels: &[u8], w: usize, s: Place, d: Place, g: &mut [u8]) -> Result<(), u8> {
     let number = |(x, y): Place| y * w + x;
     if labels[number(s)] != OPEN || labels[number(d)] != OPEN {
         return Err(END_CLOSED);
     }
-    g.fill(0);
-    span(s, d, |x, y| {
-        let i = number((x, y));
-        g[i] = (labels[i] == OPEN && backed(g, w, s, (x, y))) as u8;
-    });
+    reach(labels, w, s, d, g);
     span(d, s, |x, y| {
         let i = number((x, y));
         if !backed(g, w, d, (x, y)) {

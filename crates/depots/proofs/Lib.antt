@@ -1,0 +1,2 @@
+-- Why a turn leaves less to do.
+mod Turns

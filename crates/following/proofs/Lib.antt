@@ -1,0 +1,2 @@
+-- Laws that the proofs of telling share.
+mod Telling

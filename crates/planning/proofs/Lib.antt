@@ -1,0 +1,3 @@
+-- Laws that the proofs of a step's functions share.
+mod Telling
+mod Stepping
