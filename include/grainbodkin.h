@@ -1,13 +1,13 @@
 /*
  * Grainbodkin: the obstacle layer for carts on a grid of crossings.
  *
- * The fourteen calls of the static library, target/staticlib/liblayer.a. Each call answers by the
- * lowest refusal that applies, or succeeds: for every value of every number and every content of
- * every buffer. What C cannot let a callee check is the caller's part: a pointer stands before its
- * length and points to so many elements, aligned for their type; what a call may write overlaps
- * nothing else that is lent to the same call. A pointer is not null, even where its length is 0.
- * There is room on the stack, BODKIN_STACK bytes below the caller; docs/INTEGRATORS.md tells how
- * much each call takes.
+ * The sixteen calls of the static library, target/staticlib/liblayer.a. Each call answers by the
+ * lowest refusal that applies, but 19 before 10, or succeeds: for every value of every number and
+ * every content of every buffer. What C cannot let a callee check is the caller's part: a pointer
+ * stands before its length and points to so many elements, aligned for their type; what a call may
+ * write overlaps nothing else that is lent to the same call. A pointer is not null, even where its
+ * length is 0. There is room on the stack, BODKIN_STACK bytes below the caller;
+ * docs/INTEGRATORS.md tells how much each call takes.
  *
  * A crossing is (x, y), x rising to the east from 0, y rising to the north from 0. Its number is
  * y * width + x. Sheets and routes go by number.
@@ -71,8 +71,8 @@ enum bodkin_refusal {
     BODKIN_ID_NOT_IN_USE = 6,    /* clearing an id not in use */
     BODKIN_NO_SLOT = 7,          /* count, or a file's rocks, would pass the list lent or
                                     BODKIN_MARKERS */
-    BODKIN_END_CLOSED = 8,       /* assurance, hop, region, drive or check asked, an end
-                                    closed */
+    BODKIN_END_CLOSED = 8,       /* assurance, hop, region, drive, check or crossing lines
+                                    asked, an end closed */
     BODKIN_NO_DRIVE = 9,         /* region or drive asked, both ends open, no shortest drive */
     BODKIN_SHORT_ROUTE = 10,     /* route buffer shorter than distance + 1 */
     BODKIN_NOT_ASSURED = 11,     /* hop asked, home not assured */
@@ -84,7 +84,9 @@ enum bodkin_refusal {
     BODKIN_LONG_RASTER = 15,     /* bytes after the raster (in P1: other than blanks) */
     BODKIN_SHARED_CROSSING = 16, /* two markers on one crossing, when writing */
     BODKIN_SHORT_OUTPUT = 17,    /* output too short for the whole file */
-    BODKIN_BAD_LARGEST = 18      /* a picture's largest value is other than BODKIN_LARGEST */
+    BODKIN_BAD_LARGEST = 18,     /* a picture's largest value is other than BODKIN_LARGEST */
+    BODKIN_NO_LINES = 19         /* drive by way of crossing lines asked, and there are none;
+                                    given before 10 */
 };
 
 /* Why a crossing of a drawn list is at fault. 0 is accepted. */
@@ -149,6 +151,13 @@ struct bodkin_checked {
     uint8_t refusal;
     uint8_t reason;  /* 0: accepted; otherwise why the crossing at `position` is at fault */
     size_t position; /* from 0 on; of a list that ended early, its length */
+};
+
+struct bodkin_crossing_lines {
+    uint8_t refusal;
+    bool yes;      /* whether there are crossing lines; where not, column and row are 0 */
+    size_t column; /* the westmost column */
+    size_t row;    /* the southmost row */
 };
 
 struct bodkin_read_map {
@@ -298,6 +307,35 @@ struct bodkin_checked bodkin_check(const struct bodkin_marker *list, size_t lent
                                    const uint16_t *drawn, size_t drawn_len);
 
 /*
+ * Whether (sx, sy) and (dx, dy) have crossing lines: a column between them, ends included, and a
+ * row between them, ends included, each open throughout the rectangle that the two places span. If
+ * so there is a shortest drive, and the westmost such column and the southmost such row are handed
+ * back. The label sheet holds the labels.
+ * Refuses 1, 2, 3 or 4, and then no byte changes; or 8, and then the label sheet holds the labels.
+ */
+BODKIN_ANSWER
+struct bodkin_crossing_lines bodkin_lines(const struct bodkin_marker *list, size_t lent,
+                                          size_t count, size_t width, size_t height, size_t sx,
+                                          size_t sy, size_t dx, size_t dy, uint8_t *labels,
+                                          size_t labels_len);
+
+/*
+ * The drive from (sx, sy) to (dx, dy) by way of the crossing where the lines that bodkin_lines
+ * hands back meet: the drive to there, then the one from there with the state handed on, the
+ * meeting crossing written once. It is a shortest drive. Route, state and sheets as for
+ * bodkin_drive; the region sheet holds the region of s and d.
+ * Refuses 1, 2, 3 or 4, and then no byte changes; or 8, 19 or 10, in this order, and then the label
+ * sheet holds the labels, the region sheet is unchanged at 8 and 19 and the region at 10, and route
+ * and state are unchanged.
+ */
+BODKIN_ANSWER
+struct bodkin_drove bodkin_lines_drive(const struct bodkin_marker *list, size_t lent, size_t count,
+                                       size_t width, size_t height, size_t sx, size_t sy,
+                                       size_t dx, size_t dy, uint8_t *labels, size_t labels_len,
+                                       uint8_t *region, size_t region_len, uint16_t *route,
+                                       size_t route_len, uint32_t *state);
+
+/*
  * Reads a PBM map, P1 or P4. Its rocks become markers with ids 1, 2, 3 and on, in raster order, in
  * the first slots; other slots stay. Hands back width, height and the new count.
  * Refuses 12, then 13 in the header, 1, then at the first fault met in the raster 13, 14 or 15,
@@ -354,7 +392,7 @@ static inline struct bodkin_counted bodkin_clear_wide(struct bodkin_marker *list
     return bodkin_clear(list, lent, count, width, height, (uint16_t)(id > UINT16_MAX ? 0 : id));
 }
 
-/* What a refusal says, in words; of 0 "done", and of a number over 18 that it is none. */
+/* What a refusal says, in words; of 0 "done", and of a number over 19 that it is none. */
 static inline const char *bodkin_refusal_text(uint8_t refusal) {
     switch (refusal) {
     case BODKIN_DONE: return "done";
@@ -381,6 +419,7 @@ static inline const char *bodkin_refusal_text(uint8_t refusal) {
     case BODKIN_SHARED_CROSSING: return "two markers stand on one crossing";
     case BODKIN_SHORT_OUTPUT: return "the output is too short for the whole file";
     case BODKIN_BAD_LARGEST: return "the picture's largest value is other than 255";
+    case BODKIN_NO_LINES: return "no column and row between the ends are open throughout";
     default: return "no refusal has this number";
     }
 }

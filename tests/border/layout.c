@@ -48,6 +48,11 @@ static void structs(void) {
     FIELD(checked, refusal);
     FIELD(checked, reason);
     FIELD(checked, position);
+    STRUCT(crossing_lines);
+    FIELD(crossing_lines, refusal);
+    FIELD(crossing_lines, yes);
+    FIELD(crossing_lines, column);
+    FIELD(crossing_lines, row);
     STRUCT(read_map);
     FIELD(read_map, refusal);
     FIELD(read_map, width);
@@ -72,7 +77,7 @@ int main(void) {
     printf("crossings %d\nroute %d\nfile %d\n", BODKIN_CROSSINGS, BODKIN_ROUTE, BODKIN_FILE);
     printf("picture %d\nlargest %d\n", BODKIN_PICTURE, BODKIN_LARGEST);
     printf("stack %d\n", BODKIN_STACK);
-    for (int number = BODKIN_BAD_SIZE; number <= BODKIN_BAD_LARGEST; number++)
+    for (int number = BODKIN_BAD_SIZE; number <= BODKIN_NO_LINES; number++)
         printf("refused %d: %s\n", number, bodkin_refusal_text((uint8_t)number));
     for (int number = BODKIN_WRONG_START; number <= BODKIN_WENT_ON; number++)
         printf("reason %d: %s\n", number, bodkin_reason_text((uint8_t)number));

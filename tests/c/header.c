@@ -45,7 +45,7 @@ static void texts(void) {
     for (unsigned i = 0; i < 256; i++)
         for (unsigned j = 0; j < i; j++) {
             const char *one = bodkin_refusal_text((uint8_t)i), *other = bodkin_refusal_text((uint8_t)j);
-            all &= (strcmp(one, other) == 0) == (j > BODKIN_BAD_LARGEST);
+            all &= (strcmp(one, other) == 0) == (j > BODKIN_NO_LINES);
         }
     expect(all, "every refusal has words of its own, and no other number has");
 }

@@ -48,6 +48,8 @@ static void hop(void) { refusal = bodkin_hop(LIST, ENDS, LABELS).refusal; }
 static void make_region(void) { refusal = bodkin_region(LIST, ENDS, LABELS, region, CROSSINGS); }
 static void drive(void) { refusal = bodkin_drive(LIST, ENDS, LABELS, region, CROSSINGS, route, 2 * SIDE, &state).refusal; }
 static void check(void) { refusal = bodkin_check(LIST, ENDS, LABELS, drawn, drawn_len).refusal; }
+static void lines(void) { refusal = bodkin_lines(LIST, ENDS, LABELS).refusal; }
+static void lines_drive(void) { refusal = bodkin_lines_drive(LIST, ENDS, LABELS, region, CROSSINGS, route, 2 * SIDE, &state).refusal; }
 static void read_map(void) { refusal = bodkin_read(file, file_len, freed, BODKIN_MARKERS).refusal; }
 static void write_map(void) { refusal = bodkin_write(LIST, out, sizeof out).refusal; }
 static void write_sheet(void) { refusal = bodkin_write_sheet(LABELS, SIDE, SIDE, out, sizeof out).refusal; }
@@ -172,6 +174,8 @@ int main(void) {
     compare("drive", drive, "");
     draw();
     compare("check", check, "");
+    compare("lines", lines, "");
+    compare("lines_drive", lines_drive, "");
     compare("write", write_map, "");
     compare_reading();
     compare("write_sheet", write_sheet, "");

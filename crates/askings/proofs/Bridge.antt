@@ -23,20 +23,27 @@ use Rattle.sheets.specs.Promise.{Fits}
 use Rattle.labels.specs.Promise.{Stones}
 use Rattle.regions.specs.Promise.{Regioned, foundNumber}
 use Rattle.regions.specs.declared.Found.{Found}
-use Rattle.drives.specs.Promise.{Makes, madeNumber}
+use Rattle.drives.specs.Promise.{Makes, madeNumber, madeLength, madeState}
 use Rattle.drives.specs.declared.Made.{Made}
+use Rattle.meetings.specs.Promise.{Says, Joins, joinedNumber, joinedLength, joinedState}
+use Rattle.meetings.specs.declared.Met.{Met}
+use Rattle.meetings.specs.declared.Met.the-variants.{No, Yes}
+use Rattle.meetings.specs.declared.Joined.{Joined}
 use Rattle.calls.specs.Rules.{Gives, AnEndClosed, assured-rows, hop-rows, region-rows, drive-rows}
 use Rattle.calls.specs.RuleLaws.{gives-reworded, gives-above, gives-none, holds}
 use Rattle.calls.specs.Parts.{before}
 use Rattle.calls.specs.Answers.{Early, no-assurance, no-hop, no-crossings, homeward}
-use Rattle.calls.specs.AfterLaws.{labels-kept, labels-made, region-kept, route-kept}
+use Rattle.calls.specs.AfterLaws.{labels-kept, labels-made, region-kept, route-kept, lines-region-kept, joined-kept}
 use Rattle.calls.specs.SameLaws.{assured-rows-same, hop-rows-same, region-rows-same, drive-rows-same, region-after-same, route-after-same, finds-same}
+use Rattle.calls.specs.SameLaws.{lines-drive-rows-same, lines-told-same, lines-region-after-same, joined-after-same}
 use Rattle.calls.specs.CheckCall.{no-check}
+use Rattle.calls.specs.LinesCall.{lines-drive-rows, no-lines-told, LinesTold}
 use Rattle.calls.specs.declared.Assurance.{Assurance}
 use Rattle.calls.specs.declared.Homeward.{Homeward}
 use Rattle.calls.specs.declared.Drove.{Drove}
 use Rattle.calls.specs.declared.Checked.{Checked}
-use Rattle.askings.specs.Promise.{ClosedOn, AssuredRest, HopRest, RegionRest, DriveRest, CheckRest, DriveTold}
+use Rattle.calls.specs.declared.CrossingLines.{CrossingLines}
+use Rattle.askings.specs.Promise.{ClosedOn, AssuredRest, HopRest, RegionRest, DriveRest, CheckRest, LinesRest, LinesDriveRest, DriveTold, linesTold}
 
 -- A refusal from before changes no lent byte.
 pub early-of : {n : ℕ} → ¬ (n ≡ 0) → n ≤ no-slot → Early n
@@ -56,6 +63,15 @@ hop-given : (answer : HopAnswer) → homeward answer .refusal ≡ 0
 hop-given there = refl
 hop-given (one x y) = refl
 hop-given (two x y a b) = refl
+
+-- Nor is an answer of the crossing-lines test, and it tells what the test says.
+lines-given : (met : Met) → linesTold met .refusal ≡ 0
+lines-given No = refl
+lines-given (Yes column row) = refl
+
+lines-said : {w h : ℕ} {C : ℕ → ℕ → Type 0} {sx sy dx dy : ℕ} (met : Met) → Says w h C sx sy dx dy met → LinesTold w h C sx sy dx dy (linesTold met)
+lines-said No k = record { lines = λ e. absurd (true≢false (sym e)); none = λ _. k; zeros = λ _. refl }
+lines-said (Yes column row) k = record { lines = λ _. k; none = λ e. absurd (true≢false e); zeros = λ e. absurd (true≢false e) }
 
 -- s is the sheet stamped, t the label sheet that came of it.
 module _ {w h : ℕ} {s t : List ℕ} (sheet : LabelSheet (Stones w h s) w h t) where
@@ -146,6 +162,27 @@ module _ {w h : ℕ} {s t : List ℕ} (sheet : LabelSheet (Stones w h s) w h t) 
           done = λ k. absurd (omega arith);
         })
 
+    pub lines-closed : {r : CrossingLines} → AnEndClosed (Marked t w h) hx hy x y → r ≡ no-lines-told end-closed → LinesRest n w h hx hy x y s t r
+    lines-closed c e =
+        rw e
+        (record {
+          given = inr (λ f. f z, inl (ends-carried c, refl));
+          labels-after = labels-made (λ b. omega (arith, b .1)) sheet;
+          refused = λ _. refl;
+          done = λ k. absurd (omega arith);
+        })
+
+    pub lines-told : {r : CrossingLines} (met : Met) → ¬ AnEndClosed (Marked t w h) hx hy x y → Says w h (Marked t w h) hx hy x y met → r ≡ linesTold met
+        → LinesRest n w h hx hy x y s t r
+    lines-told {r} met o k e =
+        rw e
+        (record {
+          given = inr (λ f. f z, inr (λ c. o (ends-back c), lines-given met));
+          labels-after = labels-made (λ b. omega (arith, b .0, lines-given met)) sheet;
+          refused = λ f. absurd (f (lines-given met));
+          done = λ _. lines-told-same w h marked-alike (lines-said met k);
+        })
+
     pub check-told : {drawn : List ℕ} {f : Finding} → ¬ AnEndClosed (Marked t w h) hx hy x y → Finds w h (Marked t w h) hx hy x y drawn f
         → CheckRest n w h hx hy x y s drawn t (record { refusal = 0; reason = f .reason; position = f .position })
     check-told o k =
@@ -155,6 +192,18 @@ module _ {w h : ℕ} {s t : List ℕ} (sheet : LabelSheet (Stones w h s) w h t) 
           refused = λ f. absurd (f refl);
           done = λ _. finds-same w h marked-alike k;
         }
+
+  module _ {n : ℕ} (z : n ≡ 0) {sx sy dx dy : ℕ} {g : List ℕ} where
+    pub lines-drive-closed : {route : List ℕ} {y : ℕ} {r : Drove} → AnEndClosed (Marked t w h) sx sy dx dy → r ≡ no-crossings end-closed
+        → LinesDriveRest n w h sx sy dx dy s g route y t g route y r
+    lines-drive-closed c e =
+        rw e
+        (record {
+          given = inr (λ f. f z, inl (ends-carried c, refl));
+          labels-after = labels-made (λ b. omega (arith, b .1)) sheet;
+          region-after = lines-region-kept (inl (omega arith, omega arith));
+          route-after = joined-kept (λ k. omega arith);
+        })
 
   module _ {n : ℕ} (z : n ≡ 0) {sx sy dx dy : ℕ} {g g′ : List ℕ} where
     -- What is refused by the rows that need the labels is no refusal from before.
@@ -167,7 +216,8 @@ module _ {w h : ℕ} {s t : List ℕ} (sheet : LabelSheet (Stones w h s) w h t) 
           region-after = region-after-same w h (λ _. marked-alike) (p .region-after);
         })
 
-    pub drive-told : {route route′ : List ℕ} {y y′ : ℕ} {r : Drove} (made : Made) → Makes w h t sx sy dx dy y g g′ route route′ made → DriveTold made y y′ r
+    pub drive-told : {route route′ : List ℕ} {y y′ : ℕ} {r : Drove} (made : Made) → Makes w h t sx sy dx dy y g g′ route route′ made
+        → DriveTold (madeNumber made) (madeLength made) (madeState y made) y′ r
         → DriveRest n w h sx sy dx dy s g route y t g′ route′ y′ r
     drive-told {route} made p q =
         record {
@@ -175,6 +225,17 @@ module _ {w h : ℕ} {s t : List ℕ} (sheet : LabelSheet (Stones w h s) w h t) 
           labels-after = rw (q .refusal) (labels-made (late-number (gives-above (drive-rows w h (Marked t w h) sx sy dx dy route) no-slot _ (omega arith) (p .given))) sheet);
           region-after = rw (q .refusal) (region-after-same w h (λ _. marked-alike) (p .region-after));
           route-after = rw (q .refusal, q .length, q .state) (route-after-same w h (λ _. marked-alike) (p .route-after));
+        }
+
+    pub joined-told : {route route′ : List ℕ} {y y′ : ℕ} {r : Drove} (joined : Joined) → Joins w h t sx sy dx dy y g g′ route route′ joined
+        → DriveTold (joinedNumber joined) (joinedLength joined) (joinedState y joined) y′ r
+        → LinesDriveRest n w h sx sy dx dy s g route y t g′ route′ y′ r
+    joined-told {route} joined p q =
+        record {
+          given = inr (λ f. f z, rw (q .refusal) (gives-reworded (lines-drive-rows w h (Marked t w h) sx sy dx dy route) (lines-drive-rows w h (ClosedOn w h s) sx sy dx dy route) _ (lines-drive-rows-same w h marked-alike route) (p .given)));
+          labels-after = rw (q .refusal) (labels-made (late-number (gives-above (lines-drive-rows w h (Marked t w h) sx sy dx dy route) no-slot _ (omega arith) (p .given))) sheet);
+          region-after = rw (q .refusal) (lines-region-after-same w h (λ _. marked-alike) (p .region-after));
+          route-after = rw (q .refusal, q .length, q .state) (joined-after-same w h (λ _. marked-alike) (p .route-after));
         }
 
 -- A refusal from before.
@@ -190,6 +251,20 @@ module _ {n w h : ℕ} {s : List ℕ} (f : ¬ (n ≡ 0)) (l : n ≤ no-slot) whe
   pub check-before : {sx sy dx dy : ℕ} {drawn : List ℕ} {r : Checked} → r ≡ no-check n → CheckRest n w h sx sy dx dy s drawn s r
   check-before e =
       rw e (record { given = inl (f, refl); labels-after = labels-kept (early-of f l); refused = λ _. refl; done = λ z. absurd (f z) })
+
+  pub lines-before : {sx sy dx dy : ℕ} {r : CrossingLines} → r ≡ no-lines-told n → LinesRest n w h sx sy dx dy s s r
+  lines-before e =
+      rw e (record { given = inl (f, refl); labels-after = labels-kept (early-of f l); refused = λ _. refl; done = λ z. absurd (f z) })
+
+  pub lines-drive-before : {sx sy dx dy z : ℕ} {g route : List ℕ} {r : Drove} → r ≡ no-crossings n → LinesDriveRest n w h sx sy dx dy s g route z s g route z r
+  lines-drive-before e =
+      rw e
+      (record {
+        given = inl (f, refl);
+        labels-after = labels-kept (early-of f l);
+        region-after = lines-region-kept (inl (early-of f l .0, omega arith));
+        route-after = joined-kept f;
+      })
 
   pub drive-before : {sx sy dx dy z : ℕ} {g route : List ℕ} {r : Drove} → r ≡ no-crossings n → DriveRest n w h sx sy dx dy s g route z s g route z r
   drive-before e =

@@ -10,13 +10,11 @@ use mathlib.Core.Logic.{_↔_}
 use Prim.Native.Nat.{ℕ, _*_, _≤_}
 use lib.ListN.{length, take}
 use Rattle.field.specs.Map.{On}
-use Rattle.field.specs.Refusals.{no-slot}
+use Rattle.field.specs.Refusals.{success, no-slot}
 use Rattle.field.specs.Labels.{Closed}
 use Rattle.field.specs.Distances.{Distances, eastward, southward, westward, northward, Assured}
 use Rattle.field.specs.Checks.{Finds}
 use Rattle.labels.specs.Promise.{Stamped, Stones}
-use Rattle.drives.specs.declared.Made.{Made}
-use Rattle.drives.specs.Promise.{madeNumber, madeLength, madeState}
 use Rattle.calls.specs.Rules.{Gives, AnEndClosed, assured-rows, hop-rows, region-rows, drive-rows}
 use Rattle.calls.specs.Parts.{before}
 use Rattle.calls.specs.Answers.{no-labelling, no-four, no-assurance, no-hop, LabelsAfter, LabelNumbers, DistancesAfter, HopsNamed, RegionAfter, RouteAfter}
@@ -26,7 +24,11 @@ use Rattle.calls.specs.declared.Assurance.{Assurance}
 use Rattle.calls.specs.declared.Homeward.{Homeward}
 use Rattle.calls.specs.declared.Drove.{Drove}
 use Rattle.calls.specs.declared.Checked.{Checked}
+use Rattle.calls.specs.declared.CrossingLines.{CrossingLines}
 use Rattle.calls.specs.CheckCall.{check-rows, no-check, finding}
+use Rattle.calls.specs.LinesCall.{lines-rows, lines-drive-rows, no-lines-told, LinesTold, LinesRegionAfter, JoinedAfter}
+use Rattle.meetings.specs.declared.Met.{Met}
+use Rattle.meetings.specs.declared.Met.the-variants.{No, Yes}
 
 -- The crossings that the rocks stamped on a sheet close.
 abbrev pub ClosedOn : ℕ → ℕ → List ℕ → ℕ → ℕ → Type 0
@@ -125,14 +127,34 @@ pub record CheckRest (n w h sx sy dx dy : ℕ) (s drawn s′ : List ℕ) (r : Ch
   pub refused : ¬ (r .refusal ≡ 0) → r ≡ no-check (r .refusal)
   pub done : r .refusal ≡ 0 → Finds w h (ClosedOn w h s) sx sy dx dy drawn (finding r)
 
+-- the crossing-lines test
+pub record LinesRest (n w h sx sy dx dy : ℕ) (s s′ : List ℕ) (r : CrossingLines) : Type 0 where
+  pub given : Gives (before n ∷ lines-rows (ClosedOn w h s) sx sy dx dy) (r .refusal)
+  pub labels-after : LabelsAfter (Stones w h s) w h (r .refusal) s s′
+  pub refused : ¬ (r .refusal ≡ 0) → r ≡ no-lines-told (r .refusal)
+  pub done : r .refusal ≡ 0 → LinesTold w h (ClosedOn w h s) sx sy dx dy r
+
+-- the drive by way of the crossing lines
+pub record LinesDriveRest (n w h sx sy dx dy : ℕ) (s g route : List ℕ) (z : ℕ) (s′ g′ route′ : List ℕ) (z′ : ℕ) (r : Drove) : Type 0 where
+  pub given : Gives (before n ∷ lines-drive-rows w h (ClosedOn w h s) sx sy dx dy route) (r .refusal)
+  pub labels-after : LabelsAfter (Stones w h s) w h (r .refusal) s s′
+  pub region-after : LinesRegionAfter w h (ClosedOn w h s) sx sy dx dy (r .refusal) g g′
+  pub route-after : JoinedAfter w h (ClosedOn w h s) sx sy dx dy (r .refusal) (r .length) route z route′ z′
+
 -- For the functions within: what the test of two ends tells, C being the closed crossings. Yes: an
 -- end is closed. No: none is.
 abbrev pub EndsTold : (ℕ → ℕ → Type 0) → ℕ → ℕ → ℕ → ℕ → Bool → Type 0
 EndsTold C x y a b true = AnEndClosed C x y a b
 EndsTold C x y a b false = ¬ AnEndClosed C x y a b
 
--- What is told of a drive: the number, how many crossings are filled, and the state after it.
-pub record DriveTold (made : Made) (z z′ : ℕ) (r : Drove) : Type 0 where
-  pub refusal : r .refusal ≡ madeNumber made
-  pub length : r .length ≡ madeLength made
-  pub state : z′ ≡ madeState z made
+-- What is told of a drive: its number, how many crossings are filled, and the state after it, which
+-- is written.
+pub record DriveTold (number filled after z′ : ℕ) (r : Drove) : Type 0 where
+  pub refusal : r .refusal ≡ number
+  pub length : r .length ≡ filled
+  pub state : z′ ≡ after
+
+-- The values for each answer of the crossing-lines test.
+abbrev pub linesTold : Met → CrossingLines
+linesTold No = no-lines-told success
+linesTold (Yes column row) = record { refusal = success; yes = true; column = column; row = row }

@@ -6,6 +6,7 @@ mod telling; // telling.rt: what the crates below tell, as document 01's number 
 
 use calls::Assurance;
 use calls::Checked;
+use calls::CrossingLines;
 use calls::Drove;
 use calls::Four;
 use calls::Homeward;
@@ -15,11 +16,13 @@ use field::refusals::NOT_ASSURED;
 use field::refusals::SUCCESS;
 ghost use Rattle.askings.specs.Promise.{MayLabel, MayAsk, MayAskTwo, MayMeasure, MayDrive};
 ghost use Rattle.askings.specs.Promise.{LabelRest, DistancesRest, MeasureRest, AssuredRest, HopRest, RegionRest, DriveRest, RouteRest, CheckRest};
+ghost use Rattle.askings.specs.Promise.{LinesRest, LinesDriveRest};
 use telling::an_end_closed;
 use telling::no_assurance;
 use telling::no_check;
 use telling::no_crossings;
 use telling::no_hop;
+use telling::no_lines_told;
 
 // n where no refusal was found before.
 const UNREFUSED: u8 = 0;
@@ -251,4 +254,61 @@ pub fn check(
         reason: finding.reason,
         position: finding.position,
     }
+}
+
+// Whether (sx, sy) and (dx, dy) have crossing lines, and which: the westmost open column and the
+// southmost open row. With an end closed: refusal 8.
+pub fn lines(
+    n: u8,
+    w: usize,
+    h: usize,
+    sx: usize,
+    sy: usize,
+    dx: usize,
+    dy: usize,
+    labels: &mut [u8],
+) -> CrossingLines
+    requires { ⌜ MayAskTwo n w h sx sy dx dy (now labels) ⌝ }
+    ensures { λ r. ⌜ LinesRest n w h sx sy dx dy (now (labels .entry)) (now (labels .exit)) r ⌝ }
+{
+    if n != UNREFUSED {
+        return no_lines_told(n);
+    }
+    labels::label(labels, w, h);
+    if an_end_closed(labels, w, h, sx, sy, dx, dy) {
+        return no_lines_told(END_CLOSED);
+    }
+    let met = meetings::lines(labels, w, h, sx, sy, dx, dy);
+    telling::lines_told(met)
+}
+
+// The drive from (sx, sy) to (dx, dy) by way of the crossing where these lines meet, in the lent
+// state, at the front of a lent route; the lent sheet holds the region of the two ends. With an end
+// closed: refusal 8; without lines: 19, and then only the labels are written.
+pub fn lines_drive(
+    n: u8,
+    w: usize,
+    h: usize,
+    sx: usize,
+    sy: usize,
+    dx: usize,
+    dy: usize,
+    labels: &mut [u8],
+    region: &mut [u8],
+    route: &mut [u16],
+    state: &mut u32,
+) -> Drove
+    requires { ⌜ MayDrive n w h sx sy dx dy (now labels) (now region) ⌝ }
+    ensures { λ r. ⌜ LinesDriveRest n w h sx sy dx dy (now (labels .entry)) (now (region .entry)) (now (route .entry)) (now (state .entry)) (now (labels .exit)) (now (region .exit)) (now (route .exit)) (now (state .exit)) r ⌝ }
+{
+    if n != UNREFUSED {
+        return no_crossings(n);
+    }
+    labels::label(labels, w, h);
+    if an_end_closed(labels, w, h, sx, sy, dx, dy) {
+        return no_crossings(END_CLOSED);
+    }
+    let z = *state;
+    let joined = meetings::join(labels, w, h, sx, sy, dx, dy, z, region, route);
+    telling::joined_told(joined, state)
 }

@@ -2,14 +2,18 @@
 // refusals, a number with zeros.
 use calls::Assurance;
 use calls::Checked;
+use calls::CrossingLines;
 use calls::Drove;
 use calls::Homeward;
 use drives::Made;
 use field::refusals::END_CLOSED;
 use field::refusals::NO_DRIVE;
+use field::refusals::NO_LINES;
 use field::refusals::SHORT_ROUTE;
 use field::refusals::SUCCESS;
 use hops::Answer;
+use meetings::Joined;
+use meetings::Met;
 use regions::Found;
 ghost use mathlib.Core.Path.{_≡_};
 ghost use Rattle.field.specs.Workings.Sheet.{Marked};
@@ -17,8 +21,11 @@ ghost use Rattle.distances.specs.Promise.{AskedHome};
 ghost use Rattle.hops.specs.Promise.{answered};
 ghost use Rattle.regions.specs.Promise.{foundNumber};
 ghost use Rattle.calls.specs.Answers.{no-assurance, no-hop, no-crossings, homeward};
+ghost use Rattle.drives.specs.Promise.{madeNumber, madeLength, madeState};
+ghost use Rattle.meetings.specs.Promise.{joinedNumber, joinedLength, joinedState};
 ghost use Rattle.calls.specs.CheckCall.{no-check};
-ghost use Rattle.askings.specs.Promise.{EndsTold, DriveTold};
+ghost use Rattle.calls.specs.LinesCall.{no-lines-told};
+ghost use Rattle.askings.specs.Promise.{EndsTold, DriveTold, linesTold};
 
 // Whether one of two ends, (x, y) and (a, b), is closed.
 pub fn an_end_closed(
@@ -42,7 +49,7 @@ pub fn an_end_closed(
     false
 }
 
-// A refused assurance, hop, drive and check.
+// A refused assurance, hop, drive, check and crossing-lines test.
 pub fn no_assurance(n: u8) -> Assurance
     ensures { λ r. ⌜ r ≡ no-assurance n ⌝ }
 {
@@ -81,6 +88,17 @@ pub fn no_check(n: u8) -> Checked
         refusal: n,
         reason: 0,
         position: 0,
+    }
+}
+
+pub fn no_lines_told(n: u8) -> CrossingLines
+    ensures { λ r. ⌜ r ≡ no-lines-told n ⌝ }
+{
+    CrossingLines {
+        refusal: n,
+        yes: false,
+        column: 0,
+        row: 0,
     }
 }
 
@@ -123,13 +141,45 @@ pub fn found_number(found: Found) -> u8
 // What asking for a drive makes: its number and how many crossings are filled. The state is written
 // only where the route is filled.
 pub fn drive_told(made: Made, state: &mut u32) -> Drove
-    ensures { λ r. ⌜ DriveTold made (now (state .entry)) (now (state .exit)) r ⌝ }
+    ensures { λ r. ⌜ DriveTold (madeNumber made) (madeLength made) (madeState (now (state .entry)) made) (now (state .exit)) r ⌝ }
 {
     match made {
         Made::Closed => no_crossings(END_CLOSED),
         Made::NoDrive => no_crossings(NO_DRIVE),
         Made::Short => no_crossings(SHORT_ROUTE),
         Made::Filled(length, after) => {
+            *state = after;
+            Drove {
+                refusal: SUCCESS,
+                length,
+            }
+        }
+    }
+}
+
+// What the crossing-lines test says, as numbers: zeros beside a no.
+pub fn lines_told(met: Met) -> CrossingLines
+    ensures { λ r. ⌜ r ≡ linesTold met ⌝ }
+{
+    match met {
+        Met::No => no_lines_told(SUCCESS),
+        Met::Yes(column, row) => CrossingLines {
+            refusal: SUCCESS,
+            yes: true,
+            column,
+            row,
+        },
+    }
+}
+
+// What asking for the drive by way of the lines makes, as for a drive.
+pub fn joined_told(joined: Joined, state: &mut u32) -> Drove
+    ensures { λ r. ⌜ DriveTold (joinedNumber joined) (joinedLength joined) (joinedState (now (state .entry)) joined) (now (state .exit)) r ⌝ }
+{
+    match joined {
+        Joined::NoLines => no_crossings(NO_LINES),
+        Joined::Short => no_crossings(SHORT_ROUTE),
+        Joined::Filled(length, after) => {
             *state = after;
             Drove {
                 refusal: SUCCESS,

@@ -10,6 +10,7 @@ use Rattle.field.specs.Labels.{LabelSheet}
 use Rattle.field.specs.Distances.{Way, DistanceSheet}
 use Rattle.field.specs.Drives.{RegionSheet}
 use Rattle.calls.specs.Answers.{Early, LabelsAfter, DistancesAfter, RegionAfter, RouteAfter}
+use Rattle.calls.specs.LinesCall.{RegionSpared, LinesRegionAfter, JoinedAfter}
 
 module _ {R : ℕ → ℕ → Type 0} {w h n : ℕ} {labels : List ℕ} where
   pub labels-kept : Early n → LabelsAfter R w h n labels labels
@@ -57,6 +58,26 @@ module _ {w h : ℕ} {C : ℕ → ℕ → Type 0} {sx sy dx dy n : ℕ} {region 
 pub route-kept : {w h : ℕ} {C : ℕ → ℕ → Type 0} {sx sy dx dy n state : ℕ} {route : List ℕ} → ¬ (n ≡ 0)
     → RouteAfter w h C sx sy dx dy n 0 route state route state
 route-kept f =
+    record {
+      none = λ _. refl;
+      kept = λ _. refl;
+      still = λ _. refl;
+      long = λ z. absurd (f z);
+      driven = λ z. absurd (f z);
+      rest = λ z. absurd (f z);
+    }
+
+-- The same of the drive by way of crossing lines.
+module _ {w h : ℕ} {C : ℕ → ℕ → Type 0} {sx sy dx dy n : ℕ} {region : List ℕ} where
+  pub lines-region-kept : RegionSpared n → LinesRegionAfter w h C sx sy dx dy n region region
+  lines-region-kept k = record { kept = λ _. refl; made = λ f. absurd (f k) }
+
+  pub lines-region-made : ¬ RegionSpared n → {region′ : List ℕ} → RegionSheet w h C sx sy dx dy region′ → LinesRegionAfter w h C sx sy dx dy n region region′
+  lines-region-made f r = record { kept = λ k. absurd (f k); made = λ _. r }
+
+pub joined-kept : {w h : ℕ} {C : ℕ → ℕ → Type 0} {sx sy dx dy n state : ℕ} {route : List ℕ} → ¬ (n ≡ 0)
+    → JoinedAfter w h C sx sy dx dy n 0 route state route state
+joined-kept f =
     record {
       none = λ _. refl;
       kept = λ _. refl;

@@ -19,6 +19,7 @@ use Rattle.markers.specs.Laws.Moves.{entered-above}
 use Rattle.calls.specs.Rules.{LentMap, lentMap, Sized, Formed, markersIn, RocksOf, ClosedBy, Shared}
 use Rattle.calls.specs.RuleLaws.{formed-holds}
 use Rattle.calls.specs.Answers.{Early, LabelsAfter, DistancesAfter, RegionAfter, RouteAfter}
+use Rattle.calls.specs.LinesCall.{LinesRegionAfter, JoinedAfter}
 
 -- Slots below the count hold the same markers.
 abbrev pub SameSlots : List Marker → List Marker → ℕ → Type 0
@@ -135,6 +136,25 @@ module _ {m : LentMap} {other : List Marker} (a : Agree (m .list) other (m .coun
       → RouteAfter (m .width) (m .height) (ClosedBy m) sx sy dx dy n i route state route′ state′
       → RouteAfter (m .width) (m .height) (ClosedBy (with-list m other)) sx sy dx dy n i route state route′ state′
   route-moved g l =
+      record {
+        none = l .none;
+        kept = l .kept;
+        still = l .still;
+        long = l .long;
+        driven = λ z. rw (asked-in-use g (λ t. omega (arith, t .0))) at (l .driven z);
+        rest = l .rest;
+      }
+
+  pub lines-region-moved : {M G : Type 0} {sx sy dx dy n : ℕ} {region region′ : List ℕ} → AskingGives m M G n
+      → LinesRegionAfter (m .width) (m .height) (ClosedBy m) sx sy dx dy n region region′
+      → LinesRegionAfter (m .width) (m .height) (ClosedBy (with-list m other)) sx sy dx dy n region region′
+  lines-region-moved {n} g l =
+      record { kept = l .kept; made = λ t. rw (asked-in-use g (λ e. t (inl (e .0, omega (arith, e .1))))) at (l .made t) }
+
+  pub joined-moved : {M G : Type 0} {sx sy dx dy n i state state′ : ℕ} {route route′ : List ℕ} → AskingGives m M G n
+      → JoinedAfter (m .width) (m .height) (ClosedBy m) sx sy dx dy n i route state route′ state′
+      → JoinedAfter (m .width) (m .height) (ClosedBy (with-list m other)) sx sy dx dy n i route state route′ state′
+  joined-moved g l =
       record {
         none = l .none;
         kept = l .kept;

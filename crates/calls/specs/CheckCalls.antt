@@ -92,7 +92,7 @@ module _ {m : LentMap} {sx sy dx dy : ℕ} {sheet drawn sheet′ : List ℕ} {q 
       ends (inl n) = from .free n
       ends (inr n) = to .free n
 
-  shortest-passes : q ≡ no-check 0
+  pub shortest-passes : q ≡ no-check 0
   shortest-passes = go (c .done shortest-not-refused)
     where
       go : Finds (m .width) (m .height) (ClosedBy m) sx sy dx dy drawn (finding q) → q ≡ no-check 0

@@ -45,12 +45,12 @@ module _ {m : LentMap} {sx sy dx dy : ℕ} {labels region : List ℕ} (f : Betwe
   sheets = sheets-fit (m .width) (m .height) labels (region ∷ []) (f .labels-fit) (sheets-fit (m .width) (m .height) region [] (f .region-fits) (λ n. n))
 
   -- No row before 9 applies.
-  abbrev Earlier : Type 0
+  abbrev pub Earlier : Type 0
   Earlier =
       (((((Unit {0} × (¬ ¬ Sized m)) × (¬ Misfit (m .width) (m .height) (labels ∷ region ∷ []))) × (¬ ¬ Formed m)) × (¬ ((¬ OnIt m sx sy) ⊎ (¬ OnIt m dx dy))))
       × (¬ AnEndClosed (ClosedBy m) sx sy dx dy))
 
-  earlier : Earlier
+  pub earlier : Earlier
   earlier = (((((tt, λ n. n (f .sides)), sheets), λ n. n (f .formed)), places), ends)
 
   -- Row 9, where no row before it applies.

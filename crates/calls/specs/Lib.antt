@@ -5,6 +5,7 @@ pub mod Rule
 pub mod Rules
 pub mod Answers
 pub mod Calls
+pub mod LinesCall
 pub mod RuleLaws
 pub mod Parts
 pub mod AfterLaws
@@ -22,6 +23,7 @@ pub mod RouteCalls
 pub mod Agree
 pub mod Unread
 pub mod CheckCalls
+pub mod LinesCalls
 pub mod Demands
 pub mod RefusalTable
 pub mod RefusalSettled

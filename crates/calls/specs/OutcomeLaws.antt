@@ -1,19 +1,21 @@
 -- What makes an outcome one. Answers are equal by their fields; what an asking leaves in a lent
 -- sheet is one, since the number that it gave says whether the sheet is kept, emptied or filled,
 -- and the list says with what.
-use mathlib.Core.Path.{_≡_, sym, ap, _∙_}
+use mathlib.Core.Path.{_≡_, refl, sym, ap, subst, subst₂, _∙_}
 use mathlib.Core.Bool.{Bool, true, false}
 use mathlib.Core.List.{List, _++_}
-use mathlib.Core.Logic.{_↔_}
+use mathlib.Core.Logic.{_↔_, inl, inr}
 use Prim.Native.Nat.{ℕ, _≤_}
 use native.Mathlib.Omega.{arith}
 use native.Mathlib.Decide.{decLe, ℕ-discrete}
 use lib.ListN.{take, drop, take-append-drop}
 use lib.Seq.{ext-getD}
 use Rattle.field.specs.declared.Marker.{Marker}
-use Rattle.field.specs.Refusals.{no-slot, end-closed, no-drive}
+use Rattle.field.specs.Refusals.{no-slot, end-closed, no-drive, no-lines}
 use Rattle.field.specs.Labels.{Rock}
 use Rattle.field.specs.Distances.{Way}
+use Rattle.field.specs.CrossingLines.{DrivenBy}
+use Rattle.field.specs.Geometry.LinesLaws.{lines-one, lines-yes, driven-by-one}
 use Rattle.field.specs.Workings.Tests.{test-dec}
 use Rattle.field.specs.Workings.Stamping.{rockOf, rock-of, of-rock}
 use Rattle.field.specs.Workings.Labelling.{label-sheet-one}
@@ -22,6 +24,8 @@ use Rattle.field.specs.Workings.RegionLaws.{region-sheet-one}
 use Rattle.field.specs.Workings.ChooserLaws.{driven-one}
 use Rattle.mapfile.specs.PackedLaws.{Tellable}
 use Rattle.calls.specs.Answers.{Early, LabelsAfter, DistancesAfter, RegionAfter, RouteAfter}
+use Rattle.calls.specs.LinesCall.{LinesTold, RegionSpared, LinesRegionAfter, JoinedDrive, JoinedAfter}
+use Rattle.calls.specs.declared.CrossingLines.{CrossingLines}
 use Rattle.calls.specs.declared.Counted.{Counted}
 use Rattle.calls.specs.declared.Labelling.{Labelling}
 use Rattle.calls.specs.declared.Four.{Four}
@@ -69,27 +73,74 @@ region-after-one {w} {h} {C} {sx} {sy} {dx} {dy} {n} {m} {region} {a} {b} e p q 
         ext-getD 0 a b (p .size d ∙ sym (q .size f)) (λ i l. p .zeros d i ∙ sym (q .zeros f i))
     go (no t) (no d) = region-sheet-one w h C sx sy dx dy (p .made (λ k. t (omega arith))) (q .made (λ k. t (omega arith)))
 
--- What is left of a route: so many crossings, one state after them, and one route, which is its
--- filled part and the rest.
+pub lines-region-after-one : {w h : ℕ} {C : ℕ → ℕ → Type 0} {sx sy dx dy n m : ℕ} {region a b : List ℕ} → n ≡ m
+    → LinesRegionAfter w h C sx sy dx dy n region a → LinesRegionAfter w h C sx sy dx dy m region b → a ≡ b
+lines-region-after-one {w} {h} {C} {sx} {sy} {dx} {dy} {n} {m} {region} {a} {b} e p q = go (upto-dec n end-closed) (ℕ-discrete n no-lines)
+  where
+    go : Dec ((1 ≤ n) × (n ≤ end-closed)) → Dec (n ≡ no-lines) → a ≡ b
+    go (yes t) d = p .kept (inl t) ∙ sym (q .kept (subst RegionSpared e (inl t)))
+    go (no t) (yes d) = p .kept (inr d) ∙ sym (q .kept (subst RegionSpared e (inr d)))
+    go (no t) (no d) = region-sheet-one w h C sx sy dx dy (p .made spared) (q .made (λ k. spared (subst RegionSpared (sym e) k)))
+      where
+        spared : ¬ RegionSpared n
+        spared (inl k) = t k
+        spared (inr k) = d k
+
+-- A route is its filled part and the rest.
+route-whole : (route : List ℕ) {i j : ℕ} {a b : List ℕ} → i ≡ j → take i a ≡ take j b → drop i a ≡ drop i route → drop j b ≡ drop j route → a ≡ b
+route-whole route {i} {j} {a} {b} f front back back′ =
+    sym (take-append-drop i a) ∙ ap (λ (l : List ℕ). l ++ drop i a) front
+    ∙ ap (λ (l : List ℕ). take j b ++ l) (back ∙ ap (λ (k : ℕ). drop k route) f ∙ sym back′) ∙ take-append-drop j b
+
+-- What is left of a route: so many crossings, one state after them, and one route.
 pub route-after-one : {w h : ℕ} {C : ℕ → ℕ → Type 0} {sx sy dx dy n m i j state z z′ : ℕ} {route a b : List ℕ} → n ≡ m
     → RouteAfter w h C sx sy dx dy n i route state a z → RouteAfter w h C sx sy dx dy m j route state b z′
     → (i ≡ j) × (a ≡ b) × (z ≡ z′)
 route-after-one {w} {h} {C} {sx} {sy} {dx} {dy} {n} {m} {i} {j} {state} {z} {z′} {route} {a} {b} e p q = go (ℕ-discrete n 0)
   where
-    whole : i ≡ j → take i a ≡ take j b → drop i a ≡ drop i route → drop j b ≡ drop j route → a ≡ b
-    whole f front back back′ =
-        sym (take-append-drop i a) ∙ ap (λ (l : List ℕ). l ++ drop i a) front
-        ∙ ap (λ (l : List ℕ). take j b ++ l) (back ∙ ap (λ (k : ℕ). drop k route) f ∙ sym back′) ∙ take-append-drop j b
-
     go : Dec (n ≡ 0) → (i ≡ j) × (a ≡ b) × (z ≡ z′)
     go (yes k) =
         let k′ : m ≡ 0 = sym e ∙ k in
         let f : i ≡ j = p .long k ∙ sym (q .long k′) in
         let o = driven-one w h C sx sy dx dy (p .driven k) (q .driven k′) in
-        (f, whole f (o .0) (p .rest k) (q .rest k′), o .1)
+        (f, route-whole route f (o .0) (p .rest k) (q .rest k′), o .1)
     go (no k) =
         let k′ : ¬ (m ≡ 0) = λ d. k (e ∙ d) in
         (p .none k ∙ sym (q .none k′), p .kept k ∙ sym (q .kept k′), p .still k ∙ sym (q .still k′))
+
+-- The lines are one, and so is the drive by way of where they meet.
+pub joined-drive-one : {w h : ℕ} {C : ℕ → ℕ → Type 0} {sx sy dx dy state z z′ : ℕ} {l k : List ℕ} → JoinedDrive w h C sx sy dx dy state l z
+    → JoinedDrive w h C sx sy dx dy state k z′ → (l ≡ k) × (z ≡ z′)
+joined-drive-one {w} {h} {C} {sx} {sy} {dx} {dy} {state} {z} {z′} {l} {k} p q =
+    let e = lines-one (p .lines) (q .lines) in
+    driven-by-one (p .by) (subst₂ (λ (x y : ℕ). DrivenBy w h C sx sy dx dy x y state k z′) (sym (e .0)) (sym (e .1)) (q .by))
+
+pub joined-after-one : {w h : ℕ} {C : ℕ → ℕ → Type 0} {sx sy dx dy n m i j state z z′ : ℕ} {route a b : List ℕ} → n ≡ m
+    → JoinedAfter w h C sx sy dx dy n i route state a z → JoinedAfter w h C sx sy dx dy m j route state b z′
+    → (i ≡ j) × (a ≡ b) × (z ≡ z′)
+joined-after-one {n = n} {m = m} {i = i} {j = j} {z = z} {z′ = z′} {route = route} {a = a} {b = b} e p q = go (ℕ-discrete n 0)
+  where
+    go : Dec (n ≡ 0) → (i ≡ j) × (a ≡ b) × (z ≡ z′)
+    go (yes k) =
+        let k′ : m ≡ 0 = sym e ∙ k in
+        let f : i ≡ j = p .long k ∙ sym (q .long k′) in
+        let o = joined-drive-one (p .driven k) (q .driven k′) in
+        (f, route-whole route f (o .0) (p .rest k) (q .rest k′), o .1)
+    go (no k) =
+        let k′ : ¬ (m ≡ 0) = λ d. k (e ∙ d) in
+        (p .none k ∙ sym (q .none k′), p .kept k ∙ sym (q .kept k′), p .still k ∙ sym (q .still k′))
+
+-- What the test tells is one: yes and no exclude each other, and each fixes the numbers beside it.
+pub lines-told-one : {w h : ℕ} {C : ℕ → ℕ → Type 0} {sx sy dx dy : ℕ} (r s : CrossingLines) → r .refusal ≡ s .refusal
+    → LinesTold w h C sx sy dx dy r → LinesTold w h C sx sy dx dy s → r ≡ s
+lines-told-one r s e p q = go (r .yes) (s .yes) refl refl
+  where
+    go : (a b : Bool) → r .yes ≡ a → s .yes ≡ b → r ≡ s
+    go true true a b = let k = lines-one (p .lines a) (q .lines b) in
+        λ i. record { refusal = e i; yes = (a ∙ sym b) i; column = k .0 i; row = k .1 i }
+    go true false a b = absurd (q .none b (lines-yes (p .lines a)))
+    go false true a b = absurd (p .none a (lines-yes (q .lines b)))
+    go false false a b = p .zeros a ∙ sym (q .zeros b)
 
 -- Two refusals with one number.
 pub refused-one : {A : Type 0} (refusal : ℕ → A) {n m : ℕ} {r s : A} → n ≡ m → r ≡ refusal n → s ≡ refusal m → r ≡ s

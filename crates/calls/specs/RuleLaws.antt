@@ -1,7 +1,7 @@
--- Laws of refusals. A call's table has its rows in the order of their numbers, from 1 on: so 0 is
+-- Laws of refusals. No row of a call's table has the number 0, and no two have one number: so 0 is
 -- given exactly where no row applies, and a number exactly where its row applies and no row before
--- it does.
-use mathlib.Core.Path.{_≡_, _∙_}
+-- it does. In all tables but one the numbers rise.
+use mathlib.Core.Path.{_≡_, sym, subst, _∙_}
 use mathlib.Core.List.{List, [], _∷_, _++_}
 use mathlib.Core.Logic.{_↔_, _⊎_, inl, inr}
 use Prim.Native.Nat.{ℕ, _*_, _<_, _≤_}
@@ -18,30 +18,26 @@ abbrev pub None : List Rule → Type 0
 None [] = Unit {0}
 None (r ∷ rs) = (¬ (r .applies)) × None rs
 
--- The rows' numbers rise, all above m.
-abbrev pub Rises : ℕ → List Rule → Type 0
-Rises m [] = Unit {0}
-Rises m (r ∷ rs) = (m < r .number) × Rises (r .number) rs
+-- Every row's number is above m.
+abbrev pub Above : ℕ → List Rule → Type 0
+Above m [] = Unit {0}
+Above m (r ∷ rs) = (m < r .number) × Above m rs
 
 -- What is given is 0 or above m.
-pub gives-above : (rules : List Rule) (m n : ℕ) → Rises m rules → Gives rules n → (n ≡ 0) ⊎ (m < n)
+pub gives-above : (rules : List Rule) (m n : ℕ) → Above m rules → Gives rules n → (n ≡ 0) ⊎ (m < n)
 gives-above [] m n u g = inl g
 gives-above (r ∷ rs) m n u (inl p) = inr (omega (arith, u .0, p .1))
-gives-above (r ∷ rs) m n u (inr p) = go (gives-above rs (r .number) n (u .1) (p .1))
-  where
-    go : (n ≡ 0) ⊎ (r .number < n) → (n ≡ 0) ⊎ (m < n)
-    go (inl e) = inl e
-    go (inr l) = inr (omega (arith, u .0))
+gives-above (r ∷ rs) m n u (inr p) = gives-above rs m n (u .1) (p .1)
 
 -- 0 is given exactly where no row applies.
 pub none-gives : (rules : List Rule) (n : ℕ) → n ≡ 0 → None rules → Gives rules n
 none-gives [] n e f = e
 none-gives (r ∷ rs) n e f = inr (f .0, none-gives rs n e (f .1))
 
-pub gives-none : (rules : List Rule) (m n : ℕ) → Rises m rules → Gives rules n → n ≡ 0 → None rules
+pub gives-none : (rules : List Rule) (m n : ℕ) → Above m rules → Gives rules n → n ≡ 0 → None rules
 gives-none [] m n u g e = tt
 gives-none (r ∷ rs) m n u (inl p) e = absurd (omega (arith, u .0, p .1))
-gives-none (r ∷ rs) m n u (inr p) e = (p .0, gives-none rs (r .number) n (u .1) (p .1) e)
+gives-none (r ∷ rs) m n u (inr p) e = (p .0, gives-none rs m n (u .1) (p .1) e)
 
 -- n is given exactly as the table says. Each row's number is given exactly where the row applies
 -- and no earlier one does; 0 exactly where no row applies. Earlier says that no earlier row
@@ -53,24 +49,59 @@ ExactlyAfter Earlier (r ∷ rs) n = ((n ≡ r .number) ↔ ((r .applies) × Earl
 abbrev pub Exactly : List Rule → ℕ → Type 0
 Exactly rules n = ExactlyAfter (Unit {0}) rules n
 
--- So far: no earlier row applies, and these rows give n; or one does, and n is its number.
-exactly-after : (Earlier : Type 0) (rules : List Rule) (m n : ℕ) → Rises m rules
-    → (Earlier × Gives rules n) ⊎ ((¬ Earlier) × (1 ≤ n) × (n ≤ m)) → ExactlyAfter Earlier rules n
-exactly-after E [] m n u (inl p) = (λ z. p .0, λ z. p .1)
-exactly-after E [] m n u (inr p) = (λ z. absurd (omega (arith, p .1)), λ z. absurd (p .0 z))
-exactly-after E (r ∷ rs) m n u (inl (p, inl q)) =
-    ((λ z. (q .0, p), λ z. q .1), exactly-after (E × (¬ (r .applies))) rs (r .number) n (u .1) (inr (λ t. t .1 (q .0), omega (arith, u .0, q .1), omega (arith, q .1))))
-exactly-after E (r ∷ rs) m n u (inl (p, inr q)) =
-    ((λ z. absurd (other z (gives-above rs (r .number) n (u .1) (q .1))), λ z. absurd (q .0 (z .0))), exactly-after (E × (¬ (r .applies))) rs (r .number) n (u .1) (inl ((p, q .0), q .1)))
-  where
-    other : n ≡ r .number → (n ≡ 0) ⊎ (r .number < n) → ⊥
-    other e (inl z) = omega (arith, u .0)
-    other e (inr l) = omega arith
-exactly-after E (r ∷ rs) m n u (inr p) =
-    ((λ z. absurd (omega (arith, u .0, p .2)), λ z. absurd (p .0 (z .1))), exactly-after (E × (¬ (r .applies))) rs (r .number) n (u .1) (inr (λ t. p .0 (t .0), p .1, omega (arith, u .0, p .2))))
+-- k is no row's number, and not 0.
+abbrev pub Unlisted : ℕ → List Rule → Type 0
+Unlisted k [] = ¬ (k ≡ 0)
+Unlisted k (r ∷ rs) = (¬ (k ≡ r .number)) × Unlisted k rs
 
+-- No two rows have one number, and none has 0.
+abbrev pub Differ : List Rule → Type 0
+Differ [] = Unit {0}
+Differ (r ∷ rs) = Unlisted (r .number) rs × Differ rs
+
+-- What is given is listed, or 0.
+gives-listed : (rules : List Rule) (k n : ℕ) → Unlisted k rules → Gives rules n → ¬ (k ≡ n)
+gives-listed [] k n u g e = u (e ∙ g)
+gives-listed (r ∷ rs) k n u (inl p) e = u .0 (e ∙ p .1)
+gives-listed (r ∷ rs) k n u (inr p) e = gives-listed rs k n (u .1) (p .1) e
+
+-- So far: no earlier row applies, and these rows give n; or one does, and n is its number, which
+-- these rows do not have.
+exactly-after : (Earlier : Type 0) (rules : List Rule) (n : ℕ) → Differ rules → (Earlier × Gives rules n) ⊎ ((¬ Earlier) × Unlisted n rules)
+    → ExactlyAfter Earlier rules n
+exactly-after E [] n u (inl p) = (λ z. p .0, λ z. p .1)
+exactly-after E [] n u (inr p) = (λ z. absurd (p .1 z), λ z. absurd (p .0 z))
+exactly-after E (r ∷ rs) n u (inl (p, inl q)) = (
+  (λ z. (q .0, p), λ z. q .1),
+  exactly-after (E × (¬ (r .applies))) rs n (u .1) (inr (λ t. t .1 (q .0), subst (λ (k : ℕ). Unlisted k rs) (sym (q .1)) (u .0))),
+)
+exactly-after E (r ∷ rs) n u (inl (p, inr q)) = (
+  (λ z. absurd (gives-listed rs (r .number) n (u .0) (q .1) (sym z)), λ z. absurd (q .0 (z .0))),
+  exactly-after (E × (¬ (r .applies))) rs n (u .1) (inl ((p, q .0), q .1)),
+)
+exactly-after E (r ∷ rs) n u (inr p) =
+    ((λ z. absurd (p .1 .0 z), λ z. absurd (p .0 (z .1))), exactly-after (E × (¬ (r .applies))) rs n (u .1) (inr (λ t. p .0 (t .0), p .1 .1)))
+
+-- In whatever order the rows stand.
+pub exactly-listed : (rules : List Rule) (n : ℕ) → Differ rules → Gives rules n → Exactly rules n
+exactly-listed rules n u g = exactly-after (Unit {0}) rules n u (inl (tt, g))
+
+-- The rows' numbers rise, all above m: then no two are one.
+abbrev pub Rises : ℕ → List Rule → Type 0
+Rises m [] = Unit {0}
+Rises m (r ∷ rs) = (m < r .number) × Rises (r .number) rs
+
+rises-past : (rules : List Rule) (m k : ℕ) → Rises m rules → 1 ≤ k → k ≤ m → Unlisted k rules
+rises-past [] m k u s l = λ e. omega arith
+rises-past (r ∷ rs) m k u s l = (λ e. omega (arith, u .0), rises-past rs (r .number) k (u .1) s (omega (arith, u .0)))
+
+rises-differ : (rules : List Rule) (m : ℕ) → Rises m rules → Differ rules
+rises-differ [] m u = tt
+rises-differ (r ∷ rs) m u = (rises-past rs (r .number) (r .number) (u .1) (omega (arith, u .0)) (omega arith), rises-differ rs (r .number) (u .1))
+
+-- "The lowest number that applies is given": the rows stand in the order of their numbers.
 pub exactly : (rules : List Rule) (n : ℕ) → Rises 0 rules → Gives rules n → Exactly rules n
-exactly rules n u g = exactly-after (Unit {0}) rules 0 n u (inl (tt, g))
+exactly rules n u = exactly-listed rules n (rises-differ rules 0 u)
 
 -- A table's rows may be told in other words: where each row applies exactly when the other's does,
 -- as long as no earlier row applies, and rows left over never apply, both give one number.

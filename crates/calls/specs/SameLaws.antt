@@ -9,10 +9,12 @@ use Rattle.field.specs.Labels.{RockOn}
 use Rattle.field.specs.Distances.{Way, Assured}
 use Rattle.field.specs.declared.Finding.{Finding}
 use Rattle.field.specs.Checks.{IsClosed, reasons, Finds, accepted, at-fault}
-use Rattle.field.specs.Workings.SameLaws.{Alike, alike-back, open-same, assured-same, answers-same, has-drive-same, distance-sheet-same, region-sheet-same, driven-same, closed-same, shut-same, groups-same, count-alike}
+use Rattle.field.specs.Workings.SameLaws.{Alike, alike-back, open-same, assured-same, answers-same, has-drive-same, has-lines-same, lines-same, driven-by-same, distance-sheet-same, region-sheet-same, driven-same, closed-same, shut-same, groups-same, count-alike}
 use Rattle.calls.specs.Rules.{AnEndClosed, Gives, NoWay, assured-rows, hop-rows, region-rows, drive-rows}
 use Rattle.calls.specs.RuleLaws.{Reworded, gives-reworded, same}
 use Rattle.calls.specs.Answers.{Early, LabelNumbers, DistancesAfter, HopsNamed, RegionAfter, RouteAfter}
+use Rattle.calls.specs.LinesCall.{lines-drive-rows, LinesTold, LinesRegionAfter, JoinedAfter}
+use Rattle.calls.specs.declared.CrossingLines.{CrossingLines}
 use Rattle.calls.specs.declared.Labelling.{Labelling}
 use Rattle.calls.specs.declared.Homeward.{Homeward}
 
@@ -51,6 +53,24 @@ module _ (w h : ℕ) {C D : ℕ → ℕ → Type 0} where
         still = l .still;
         long = l .long;
         driven = λ z. driven-same w h (a z) (l .driven z);
+        rest = l .rest;
+      }
+
+  pub lines-region-after-same : {sx sy dx dy n : ℕ} {region region′ : List ℕ} → (¬ Early n → Alike C D) → LinesRegionAfter w h C sx sy dx dy n region region′
+      → LinesRegionAfter w h D sx sy dx dy n region region′
+  lines-region-after-same a l =
+      record { kept = l .kept; made = λ f. region-sheet-same w h (a (λ e. f (inl (e .0, omega (arith, e .1))))) (l .made f) }
+
+  pub joined-after-same : {sx sy dx dy n i state state′ : ℕ} {route route′ : List ℕ} → (n ≡ 0 → Alike C D)
+      → JoinedAfter w h C sx sy dx dy n i route state route′ state′ → JoinedAfter w h D sx sy dx dy n i route state route′ state′
+  joined-after-same a l =
+      record {
+        none = l .none;
+        kept = l .kept;
+        still = l .still;
+        long = l .long;
+        driven = λ z. let k = l .driven z in
+            record { column = k .column; row = k .row; lines = lines-same w h (a z) (k .lines); by = driven-by-same w h (a z) (k .by) };
         rest = l .rest;
       }
 
@@ -94,6 +114,14 @@ module _ (w h : ℕ) {C D : ℕ → ℕ → Type 0} (a : Alike C D) where
 
   pub drive-rows-same : {sx sy dx dy : ℕ} (route : List ℕ) → Reworded (drive-rows w h C sx sy dx dy route) (drive-rows w h D sx sy dx dy route)
   drive-rows-same route = (refl, ends-both, λ _. (refl, no-way-both, λ _. (refl, same, λ _. tt)))
+
+  pub lines-told-same : {sx sy dx dy : ℕ} {r : CrossingLines} → LinesTold w h C sx sy dx dy r → LinesTold w h D sx sy dx dy r
+  lines-told-same k =
+      record { lines = λ e. lines-same w h a (k .lines e); none = λ e t. k .none e (has-lines-same w h (alike-back a) t); zeros = k .zeros }
+
+  pub lines-drive-rows-same : {sx sy dx dy : ℕ} (route : List ℕ) → Reworded (lines-drive-rows w h C sx sy dx dy route) (lines-drive-rows w h D sx sy dx dy route)
+  lines-drive-rows-same route =
+      (refl, ends-both, λ _. (refl, (λ f t. f (has-lines-same w h (alike-back a) t), λ f t. f (has-lines-same w h a t)), λ _. (refl, same, λ _. tt)))
 
   -- What is found of a drawn list.
   reasons-same : (sx sy dx dy : ℕ) (l : List ℕ) (p : ℕ) → Reworded (reasons w h C sx sy dx dy l p) (reasons w h D sx sy dx dy l p)

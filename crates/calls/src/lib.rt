@@ -90,3 +90,13 @@ pub struct SheetRead {
     pub width: usize,
     pub height: usize,
 }
+
+// Whether two places have crossing lines, and if so the westmost column and the southmost row; if
+// not, or with a refusal, zeros.
+#[repr(C)]
+pub struct CrossingLines {
+    pub refusal: u8,
+    pub yes: bool,
+    pub column: usize,
+    pub row: usize,
+}

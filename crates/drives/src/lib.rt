@@ -1,5 +1,5 @@
 // The chooser's drive, over a sheet that marks the closed crossings.
-mod chooser; // chooser.rt: the choice at a crossing, and a drive written down
+pub mod chooser; // chooser.rt: the choice at a crossing, and a drive written down
 
 ghost use mathlib.Core.Path.{_≡_};
 ghost use Prim.Native.Nat.{_*_, _%_};

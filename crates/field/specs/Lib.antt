@@ -2,7 +2,7 @@
 -- document's words, which a reader must believe. Limits has the numbers that the code's constants
 -- share with them. Workings compute, and each agrees with its meaning; Geometry and Checked have
 -- the theorems that need no code; Table has the settled examples, FurtherTable what they leave
--- open, CheckTable drawn lists, and DepotTable depots.
+-- open, CheckTable drawn lists, DepotTable depots, and LinesTable crossing lines.
 pub mod Map
 pub mod Rule
 pub mod Refusals
@@ -28,3 +28,5 @@ pub mod CheckTable
 pub mod CheckSettled
 pub mod DepotTable
 pub mod DepotSettled
+pub mod LinesTable
+pub mod LinesSettled

@@ -1,5 +1,6 @@
--- Document 01's refusal numbers, each by a name; src/refusals.rt has the same for the code. "The
--- lowest number that applies is given", but for reading a file.
+-- Document 01's refusal numbers and those of document 02, each by a name; src/refusals.rt has the
+-- same for the code. "The lowest number that applies is given", but for reading a file, and for 19,
+-- which comes before 10.
 use Prim.Native.Nat.{ℕ}
 
 -- "(0 on success)"
@@ -78,3 +79,7 @@ short-output = 17
 -- a picture's largest value other than the one that distances are written with
 abbrev pub bad-largest : ℕ
 bad-largest = 18
+
+-- drive by way of crossing lines asked and no such column and row
+abbrev pub no-lines : ℕ
+no-lines = 19

@@ -31,6 +31,8 @@ pub mod FaultLaws
 pub mod CheckLaws
 pub mod ChooserLaws
 pub mod ChoosingLaws
+pub mod Crossing
+pub mod CrossingLaws
 pub mod SameLaws
 pub mod RowTests
 pub mod RowLaws

@@ -1,4 +1,4 @@
-// Document 01's refusal numbers, each by a name, as in specs/Refusals.
+// Document 01's refusal numbers and those of document 02, each by a name, as in specs/Refusals.
 
 // "(0 on success)"
 pub const SUCCESS: u8 = 0;
@@ -57,3 +57,6 @@ pub const SHORT_OUTPUT: u8 = 17;
 
 // a picture's largest value other than the one that distances are written with
 pub const BAD_LARGEST: u8 = 18;
+
+// drive by way of crossing lines asked and no such column and row
+pub const NO_LINES: u8 = 19;

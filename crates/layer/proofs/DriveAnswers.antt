@@ -10,9 +10,11 @@ use lib.ListN.{length}
 use Rattle.calls.specs.declared.Drove.{Drove}
 use Rattle.calls.specs.Rules.{LentMap, ClosedBy, region-rows, drive-rows}
 use Rattle.calls.specs.SameLaws.{region-after-same, route-after-same, region-rows-same, drive-rows-same}
+use Rattle.calls.specs.SameLaws.{lines-region-after-same, joined-after-same, lines-drive-rows-same}
 use Rattle.calls.specs.Calls.{RegionCall, DriveCall, RouteCall}
+use Rattle.calls.specs.LinesCall.{LinesDriveCall, lines-drive-rows}
 use Rattle.calls.specs.RouteCalls.{drive-part}
-use Rattle.askings.specs.Promise.{ClosedOn, MayDrive, RegionRest, DriveRest, RouteRest}
+use Rattle.askings.specs.Promise.{ClosedOn, MayDrive, RegionRest, DriveRest, RouteRest, LinesDriveRest}
 use Rattle.judging.specs.Judging.{OneFit}
 use Rattle.layer.specs.Prepared.{Prepared}
 use Rattle.layer.proofs.Tables.{not-no}
@@ -49,6 +51,20 @@ module _ {m : LentMap} {sx sy dx dy : ℕ} {others : Bool} {labels s : List ℕ}
         labels-after = q .labels-after;
         region-after = region-after-same (m .width) (m .height) (λ f. closed-alike p (q .passed f)) (e .region-after);
         route-after = route-after-same (m .width) (m .height) (λ z. closed-alike p (q .passed (none-early z))) (e .route-after);
+      }
+
+  pub lines-drive-joined : {route t g′ route′ : List ℕ} {state state′ : ℕ} {r : Drove}
+      → LinesDriveRest n (m .width) (m .height) sx sy dx dy s g route state t g′ route′ state′ r
+      → LinesDriveCall m sx sy dx dy labels g route state t g′ route′ state′ r
+  lines-drive-joined {route} e =
+      let q = joined-two p (g ∷ []) (one-tells g told) (lines-drive-rows (m .width) (m .height) (ClosedOn (m .width) (m .height) s) sx sy dx dy route)
+      (lines-drive-rows (m .width) (m .height) (ClosedBy m) sx sy dx dy route) (omega arith)
+      (λ z. lines-drive-rows-same (m .width) (m .height) (closed-alike p z) route) (e .given) (e .labels-after) in
+      record {
+        given = q .given;
+        labels-after = q .labels-after;
+        region-after = lines-region-after-same (m .width) (m .height) (λ f. closed-alike p (q .passed f)) (e .region-after);
+        route-after = joined-after-same (m .width) (m .height) (λ z. closed-alike p (q .passed (none-early z))) (e .route-after);
       }
 
   pub route-joined : {route t g′ part : List ℕ} {state number state′ : ℕ} {from at : ℕ × ℕ}

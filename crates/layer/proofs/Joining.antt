@@ -11,13 +11,13 @@ use native.Mathlib.Decide.{ℕ-discrete}
 use lib.Dec.{lit<}
 use lib.ListN.{length}
 use Rattle.field.specs.Map.{Sides}
-use Rattle.field.specs.Refusals.{bad-list, no-slot}
+use Rattle.field.specs.Refusals.{no-slot}
 use Rattle.field.specs.Labels.{RockOn}
 use Rattle.field.specs.Workings.SameLaws.{Alike, closed-same, label-sheet-same}
 use Rattle.labels.specs.Promise.{Stamped, Stones}
 use Rattle.calls.specs.Rules
 use Rattle.calls.specs.Rules.{LentMap, Sized, OnIt, RocksOf, ClosedBy, Rule, Gives, Misfit}
-use Rattle.calls.specs.RuleLaws.{None, Rises, gives-none, gives-above, Reworded, gives-reworded, same, gives-early, gives-later, sides-hold, on-holds}
+use Rattle.calls.specs.RuleLaws.{None, Above, gives-none, gives-above, Reworded, gives-reworded, same, gives-early, gives-later, sides-hold, on-holds}
 use Rattle.calls.specs.Parts.{before}
 use Rattle.calls.specs.Answers.{Early, LabelsAfter}
 use Rattle.askings.specs.Promise.{ClosedOn, MayLabel}
@@ -126,7 +126,7 @@ module _ {m : LentMap} {x y a b : ℕ} {others : Bool} {labels s : List ℕ} {n 
 
   -- The rows of a call: the first three and `own`, which say what the first part judged, and after
   -- them the rows `later`.
-  module _ (sheets : List (List ℕ)) (own : List Rule) (rises : Rises bad-list own) (tells : Tells (m .width) (m .height) others sheets)
+  module _ (sheets : List (List ℕ)) (own : List Rule) (some : Above 0 own) (tells : Tells (m .width) (m .height) others sheets)
       (places : Sized m → Reworded (Rules.places-rule m x y a b ∷ []) own) where
     first-gives : Gives (Rules.asking-table m (labels ∷ sheets) own) n
     first-gives =
@@ -140,7 +140,7 @@ module _ {m : LentMap} {x y a b : ℕ} {others : Bool} {labels s : List ℕ} {n 
 
     -- What the second part gives by its rows, over the stones, and leaves on the label sheet, is
     -- what the call gives by `later` and leaves.
-    pub joined : (rows later : List Rule) → Rises no-slot rows → (n ≡ 0 → Reworded rows later) → {r : ℕ} → Gives (before n ∷ rows) r → {t : List ℕ}
+    pub joined : (rows later : List Rule) → Above no-slot rows → (n ≡ 0 → Reworded rows later) → {r : ℕ} → Gives (before n ∷ rows) r → {t : List ℕ}
         → LabelsAfter (Stones (m .width) (m .height) s) (m .width) (m .height) r s t → Answered m (labels ∷ sheets) (own ++ later) n labels t r
     joined rows later up reworded {r} g {t} l = go (ℕ-discrete n 0) g
       where
@@ -163,14 +163,14 @@ module _ {m : LentMap} {x y a b : ℕ} {others : Bool} {labels s : List ℕ} {n 
             let none = late (gives-above rows no-slot r up (k .1)) in
             record {
               given = gives-later (Rules.asking-table m (labels ∷ sheets) own) later r
-                  (gives-none (Rules.asking-table m (labels ∷ sheets) own) 0 n (lit< tt, (lit< tt, (lit< tt, rises))) first-gives z)
+                  (gives-none (Rules.asking-table m (labels ∷ sheets) own) 0 n (lit< tt, (lit< tt, (lit< tt, some))) first-gives z)
                   (gives-reworded rows later r (reworded z) (k .1));
               labels-after = record { kept = λ e. absurd (none e); labelled = λ e. label-sheet-same (m .width) (m .height) (stones-alike z) (l .labelled e) };
               passed = λ _. z;
             }
 
   -- The same of a call that asks for two places, whose row stands as it is.
-  pub joined-two : (sheets : List (List ℕ)) → Tells (m .width) (m .height) others sheets → (rows later : List Rule) → Rises no-slot rows
+  pub joined-two : (sheets : List (List ℕ)) → Tells (m .width) (m .height) others sheets → (rows later : List Rule) → Above no-slot rows
       → (n ≡ 0 → Reworded rows later) → {r : ℕ} → Gives (before n ∷ rows) r → {t : List ℕ}
       → LabelsAfter (Stones (m .width) (m .height) s) (m .width) (m .height) r s t
       → Answered m (labels ∷ sheets) (Rules.places-rule m x y a b ∷ later) n labels t r

@@ -1,5 +1,5 @@
--- Labelling, distances, assurance, hops and checks: what the second part tells of a stamped sheet
--- is what the call promises of the list.
+-- Labelling, distances, assurance, hops, checks and crossing lines: what the second part tells of a
+-- stamped sheet is what the call promises of the list.
 use mathlib.Core.Path.{_≡_, refl}
 use mathlib.Core.Bool.{Bool, true}
 use mathlib.Core.List.{List, [], _∷_}
@@ -14,13 +14,15 @@ use Rattle.calls.specs.declared.Four.{Four}
 use Rattle.calls.specs.declared.Assurance.{Assurance}
 use Rattle.calls.specs.declared.Homeward.{Homeward}
 use Rattle.calls.specs.declared.Checked.{Checked}
+use Rattle.calls.specs.declared.CrossingLines.{CrossingLines}
 use Rattle.calls.specs.Rules
 use Rattle.calls.specs.Rules.{LentMap, Sized, OnIt, ClosedBy, assured-rows, hop-rows}
 use Rattle.calls.specs.RuleLaws.{Reworded}
-use Rattle.calls.specs.SameLaws.{numbers-same, distances-after-same, hops-named-same, finds-same, assured-rows-same, hop-rows-same}
+use Rattle.calls.specs.SameLaws.{numbers-same, distances-after-same, hops-named-same, finds-same, lines-told-same, assured-rows-same, hop-rows-same}
 use Rattle.calls.specs.Calls.{LabelCall, DistancesCall, MeasureCall, AssuredCall, HopCall}
 use Rattle.calls.specs.CheckCall.{CheckCall, check-rows}
-use Rattle.askings.specs.Promise.{ClosedOn, MayLabel, MayAsk, MayAskTwo, MayMeasure, LabelRest, DistancesRest, MeasureRest, AssuredRest, HopRest, CheckRest}
+use Rattle.calls.specs.LinesCall.{LinesCall, lines-rows}
+use Rattle.askings.specs.Promise.{ClosedOn, MayLabel, MayAsk, MayAskTwo, MayMeasure, LabelRest, DistancesRest, MeasureRest, AssuredRest, HopRest, CheckRest, LinesRest}
 use Rattle.judging.specs.Judging.{FourFit}
 use Rattle.layer.specs.Prepared.{Prepared}
 use Rattle.layer.proofs.Tables.{not-no}
@@ -128,4 +130,15 @@ module _ {m : LentMap} {labels s : List ℕ} {n : ℕ} where
           labels-after = q .labels-after;
           refused = e .refused;
           done = λ z. finds-same (m .width) (m .height) (closed-alike p (q .passed (none-early z))) (e .done z);
+        }
+
+    pub lines-joined : {t : List ℕ} {r : CrossingLines} → LinesRest n (m .width) (m .height) hx hy x y s t r → LinesCall m hx hy x y labels t r
+    lines-joined e =
+        let q = joined-two p [] none-tell (lines-rows (ClosedOn (m .width) (m .height) s) hx hy x y) (lines-rows (ClosedBy m) hx hy x y) (omega arith)
+        (λ z. assured-rows-same (m .width) (m .height) (closed-alike p z)) (e .given) (e .labels-after) in
+        record {
+          given = q .given;
+          labels-after = q .labels-after;
+          refused = e .refused;
+          done = λ z. lines-told-same (m .width) (m .height) (closed-alike p (q .passed (none-early z))) (e .done z);
         }

@@ -8,6 +8,7 @@ pub mod route; // route.rt: the drive, of which a part of the route is handed ba
 use calls::Assurance;
 use calls::Checked;
 use calls::Counted;
+use calls::CrossingLines;
 use calls::Drove;
 use calls::Four;
 use calls::Homeward;
@@ -19,6 +20,7 @@ use preparing::prepare;
 ghost use Rattle.calls.specs.Rules.{lentMap};
 ghost use Rattle.calls.specs.Calls.{EnterCall, ClearCall, LabelCall, DistancesCall, MeasureCall, AssuredCall, HopCall, RegionCall, DriveCall};
 ghost use Rattle.calls.specs.CheckCall.{CheckCall};
+ghost use Rattle.calls.specs.LinesCall.{LinesCall, LinesDriveCall};
 ghost use Rattle.layer.specs.Prepared.{Seeks};
 
 // What is found of the map, the list and an id. The id is looked for only where the list is well
@@ -255,4 +257,50 @@ pub extern "C" fn bodkin_check(
 {
     let n = prepare(list, count, w, h, sx, sy, dx, dy, true, labels);
     askings::check(n, w, h, sx, sy, dx, dy, labels, drawn)
+}
+
+// Whether some column and some row between (sx, sy) and (dx, dy) are open throughout the rectangle
+// that they span. Hands back the westmost such column and the southmost such row, zeros beside a
+// no, or the refusal: 1, 2, 3, 4 or 8.
+#[no_mangle]
+pub extern "C" fn bodkin_lines(
+    list: &[Marker],
+    count: usize,
+    w: usize,
+    h: usize,
+    sx: usize,
+    sy: usize,
+    dx: usize,
+    dy: usize,
+    labels: &mut [u8],
+) -> CrossingLines
+    ensures { λ r. ⌜ LinesCall (lentMap (now (list .entry)) count w h) sx sy dx dy (now (labels .entry)) (now (labels .exit)) r ⌝ }
+{
+    let n = prepare(list, count, w, h, sx, sy, dx, dy, true, labels);
+    askings::lines(n, w, h, sx, sy, dx, dy, labels)
+}
+
+// The drive from (sx, sy) to (dx, dy) by way of the crossing where that column and that row meet,
+// drawn from the lent state, at the front of the lent route. Hands back how many crossings it has,
+// or the refusal: 1, 2, 3, 4, 8, 19 or 10, in this order.
+#[no_mangle]
+pub extern "C" fn bodkin_lines_drive(
+    list: &[Marker],
+    count: usize,
+    w: usize,
+    h: usize,
+    sx: usize,
+    sy: usize,
+    dx: usize,
+    dy: usize,
+    labels: &mut [u8],
+    region: &mut [u8],
+    route: &mut [u16],
+    state: &mut u32,
+) -> Drove
+    ensures { λ r. ⌜ LinesDriveCall (lentMap (now (list .entry)) count w h) sx sy dx dy (now (labels .entry)) (now (region .entry)) (now (route .entry)) (now (state .entry)) (now (labels .exit)) (now (region .exit)) (now (route .exit)) (now (state .exit)) r ⌝ }
+{
+    let others = judging::fits(w, h, region.len());
+    let n = prepare(list, count, w, h, sx, sy, dx, dy, others, labels);
+    askings::lines_drive(n, w, h, sx, sy, dx, dy, labels, region, route, state)
 }

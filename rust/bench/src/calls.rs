@@ -4,8 +4,8 @@ use crate::layer::{Layer, Listing};
 use crate::plain::{Looking, Stack};
 use crate::room::{Room, Window};
 use grainbodkin_sys::{
-    Assurance, Checked, Counted, Drove, Four, Homeward, Labelling, Marker, ReadMap, SheetRead,
-    SheetWritten, WroteMap,
+    Assurance, Checked, Counted, CrossingLines, Drove, Four, Homeward, Labelling, Marker, ReadMap,
+    SheetRead, SheetWritten, WroteMap,
 };
 use std::hint::black_box;
 
@@ -20,6 +20,8 @@ pub enum Call {
     Region,
     Drive,
     Check,
+    Lines,
+    LinesDrive,
     Enter,
     Clear,
     ReadPlain,
@@ -30,7 +32,7 @@ pub enum Call {
 }
 
 /// Every call with its name.
-pub const CALLS: [(&str, Call); 15] = [
+pub const CALLS: [(&str, Call); 17] = [
     ("label", Call::Label),
     ("measure", Call::Measure),
     ("distances", Call::Distances),
@@ -39,6 +41,8 @@ pub const CALLS: [(&str, Call); 15] = [
     ("region", Call::Region),
     ("drive", Call::Drive),
     ("check", Call::Check),
+    ("lines", Call::Lines),
+    ("by-lines", Call::LinesDrive),
     ("enter", Call::Enter),
     ("clear", Call::Clear),
     ("read-p1", Call::ReadPlain),
@@ -64,7 +68,9 @@ impl Call {
             | Call::Hop
             | Call::Region
             | Call::Drive
-            | Call::Check => &["empty", "sparse", "dense", "blocks", "lattice-2"],
+            | Call::Check
+            | Call::Lines
+            | Call::LinesDrive => &["empty", "sparse", "dense", "blocks", "lattice-2"],
             Call::ReadSheet | Call::WriteSheet => &["sparse"],
             _ => &["sparse", "dense", "full"],
         }
@@ -81,6 +87,7 @@ pub enum Answer {
     Homeward(Homeward),
     Drove(Drove),
     Checked(Checked),
+    CrossingLines(CrossingLines),
     Counted(Counted),
     ReadMap(ReadMap),
     WroteMap(WroteMap),
@@ -98,6 +105,7 @@ impl Answer {
             Answer::Homeward(a) => a.refusal,
             Answer::Drove(a) => a.refusal,
             Answer::Checked(a) => a.refusal,
+            Answer::CrossingLines(a) => a.refusal,
             Answer::Counted(a) => a.refusal,
             Answer::ReadMap(a) => a.refusal,
             Answer::WroteMap(a) => a.refusal,
@@ -160,6 +168,7 @@ pub fn repeat<L: Layer>(call: Call, input: &Input, room: &mut Room, times: usize
             Answer::WroteMap(again(times, write))
         }
         Call::Check => check_again::<L>(input, room, times),
+        Call::Lines | Call::LinesDrive => lines_again::<L>(call, input, room, times),
         Call::ReadSheet => {
             let read = || L::read_sheet(black_box(&input.picture), &mut room.east);
             Answer::SheetRead(again(times, read))
@@ -229,6 +238,25 @@ fn check_again<L: Layer>(input: &Input, room: &mut Room, times: usize) -> Answer
     let labels = &mut room.labels;
     let check = || L::check(list, n, w, h, sx, sy, dx, dy, labels, drawn);
     Answer::Checked(again(times, check))
+}
+
+/// Crossing lines and the drive by way of them, between a home and the farthest place for which it
+/// is assured: most such pairs have lines.
+fn lines_again<L: Layer>(call: Call, input: &Input, room: &mut Room, times: usize) -> Answer {
+    let (list, n) = (black_box(&input.list[..]), input.list.len());
+    let (w, h) = black_box((input.side, input.side));
+    let ((sx, sy), (dx, dy)) = black_box((input.home, input.place));
+    let (labels, g) = (&mut room.labels, &mut room.region);
+    if call == Call::Lines {
+        let lines = || L::lines(list, n, w, h, sx, sy, dx, dy, labels);
+        return Answer::CrossingLines(again(times, lines));
+    }
+    let (route, z) = (&mut room.route, &mut room.state);
+    let drive = || {
+        *z = STATE;
+        L::lines_drive(list, n, w, h, sx, sy, dx, dy, labels, g, route, z)
+    };
+    Answer::Drove(again(times, drive))
 }
 
 /// Enters the map's first marker, before all others, into a list that it fills: every other marker moves.

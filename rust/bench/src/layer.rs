@@ -1,8 +1,8 @@
-//! The fourteen calls as both sides have them: over lent slices, with the answers of
+//! The sixteen calls as both sides have them: over lent slices, with the answers of
 //! `grainbodkin-sys`.
 use grainbodkin_sys::{
-    Assurance, Checked, Counted, Drove, Four, Homeward, Labelling, Marker, ReadMap, SheetRead,
-    SheetWritten, WroteMap,
+    Assurance, Checked, Counted, CrossingLines, Drove, Four, Homeward, Labelling, Marker, ReadMap,
+    SheetRead, SheetWritten, WroteMap,
 };
 
 /// The two calls that change the list.
@@ -20,7 +20,7 @@ pub trait Listing {
     fn clear(list: &mut [Marker], count: usize, w: usize, h: usize, id: u16) -> Counted;
 }
 
-/// All fourteen.
+/// All sixteen.
 pub trait Layer: Listing {
     fn label(list: &[Marker], count: usize, w: usize, h: usize, labels: &mut [u8]) -> Labelling;
 
@@ -110,6 +110,33 @@ pub trait Layer: Listing {
         labels: &mut [u8],
         drawn: &[u16],
     ) -> Checked;
+
+    fn lines(
+        list: &[Marker],
+        count: usize,
+        w: usize,
+        h: usize,
+        sx: usize,
+        sy: usize,
+        dx: usize,
+        dy: usize,
+        labels: &mut [u8],
+    ) -> CrossingLines;
+
+    fn lines_drive(
+        list: &[Marker],
+        count: usize,
+        w: usize,
+        h: usize,
+        sx: usize,
+        sy: usize,
+        dx: usize,
+        dy: usize,
+        labels: &mut [u8],
+        region: &mut [u8],
+        route: &mut [u16],
+        state: &mut u32,
+    ) -> Drove;
 
     fn read(file: &[u8], list: &mut [Marker]) -> ReadMap;
 

@@ -3,8 +3,8 @@
 use crate::layer::{Layer, Listing};
 use grainbodkin_sys as sys;
 use sys::{
-    Assurance, Checked, Counted, Drove, Four, Homeward, Labelling, Marker, ReadMap, SheetRead,
-    SheetWritten, WroteMap,
+    Assurance, Checked, Counted, CrossingLines, Drove, Four, Homeward, Labelling, Marker, ReadMap,
+    SheetRead, SheetWritten, WroteMap,
 };
 
 pub struct Library;
@@ -215,6 +215,70 @@ impl Layer for Library {
                 labels.len(),
                 drawn.as_ptr(),
                 drawn.len(),
+            )
+        }
+    }
+
+    fn lines(
+        list: &[Marker],
+        count: usize,
+        w: usize,
+        h: usize,
+        sx: usize,
+        sy: usize,
+        dx: usize,
+        dy: usize,
+        labels: &mut [u8],
+    ) -> CrossingLines {
+        unsafe {
+            sys::bodkin_lines(
+                list.as_ptr(),
+                list.len(),
+                count,
+                w,
+                h,
+                sx,
+                sy,
+                dx,
+                dy,
+                labels.as_mut_ptr(),
+                labels.len(),
+            )
+        }
+    }
+
+    fn lines_drive(
+        list: &[Marker],
+        count: usize,
+        w: usize,
+        h: usize,
+        sx: usize,
+        sy: usize,
+        dx: usize,
+        dy: usize,
+        labels: &mut [u8],
+        region: &mut [u8],
+        route: &mut [u16],
+        state: &mut u32,
+    ) -> Drove {
+        unsafe {
+            sys::bodkin_lines_drive(
+                list.as_ptr(),
+                list.len(),
+                count,
+                w,
+                h,
+                sx,
+                sy,
+                dx,
+                dy,
+                labels.as_mut_ptr(),
+                labels.len(),
+                region.as_mut_ptr(),
+                region.len(),
+                route.as_mut_ptr(),
+                route.len(),
+                state,
             )
         }
     }

@@ -3,7 +3,7 @@
 use independent::map::{Crossing, Map};
 use independent::markers::Marker;
 
-/// The fourteen calls.
+/// The sixteen calls.
 #[derive(Clone, Copy, Debug, PartialEq, Eq)]
 pub enum Call {
     Enter,
@@ -16,13 +16,15 @@ pub enum Call {
     Region,
     Drive,
     Check,
+    Lines,
+    LinesDrive,
     Read,
     Write,
     WriteSheet,
     ReadSheet,
 }
 
-pub const CALLS: [Call; 14] = [
+pub const CALLS: [Call; 16] = [
     Call::Enter,
     Call::Clear,
     Call::Label,
@@ -33,6 +35,8 @@ pub const CALLS: [Call; 14] = [
     Call::Region,
     Call::Drive,
     Call::Check,
+    Call::Lines,
+    Call::LinesDrive,
     Call::Read,
     Call::Write,
     Call::WriteSheet,
@@ -52,6 +56,8 @@ impl Call {
             Call::Region => "region",
             Call::Drive => "drive",
             Call::Check => "check",
+            Call::Lines => "lines",
+            Call::LinesDrive => "by lines",
             Call::Read => "read",
             Call::Write => "write",
             Call::WriteSheet => "picture",
@@ -72,6 +78,8 @@ impl Call {
             Call::Region => &[0, 1, 2, 3, 4, 8, 9],
             Call::Drive => &[0, 1, 2, 3, 4, 8, 9, 10],
             Call::Check => &[0, 1, 2, 3, 4, 8],
+            Call::Lines => &[0, 1, 2, 3, 4, 8],
+            Call::LinesDrive => &[0, 1, 2, 3, 4, 8, 10, 19],
             Call::Read => &[0, 1, 7, 12, 13, 14, 15],
             Call::Write => &[0, 1, 3, 16, 17],
             Call::WriteSheet => &[0, 1, 2, 17],
@@ -84,6 +92,7 @@ impl Call {
         match self {
             Call::Enter | Call::Distances => 1,
             Call::Assured | Call::Hop | Call::Region | Call::Drive | Call::Check => 2,
+            Call::Lines | Call::LinesDrive => 2,
             _ => 0,
         }
     }
@@ -92,7 +101,8 @@ impl Call {
     pub fn sheets(self) -> usize {
         match self {
             Call::Label | Call::Distances | Call::Assured | Call::Hop | Call::Check => 1,
-            Call::Region | Call::Drive => 2,
+            Call::Lines => 1,
+            Call::Region | Call::Drive | Call::LinesDrive => 2,
             Call::Measure => 5,
             _ => 0,
         }

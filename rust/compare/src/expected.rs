@@ -1,7 +1,7 @@
 //! What the independent program says of a case.
 use crate::case::{After, Call, Case, Memory};
 use independent::asking::Asking;
-use independent::{checks, distances, drives, files, hops, labels, markers, pictures};
+use independent::{checks, distances, drives, files, hops, labels, lines, markers, pictures};
 
 /// The independent program's answer and memory after the call.
 pub fn expect(case: &Case) -> After {
@@ -14,8 +14,9 @@ pub fn expect(case: &Case) -> After {
         Call::Assured => assured(case, &mut memory),
         Call::Hop => hop(case, &mut memory),
         Call::Region => region(case, &mut memory),
-        Call::Drive => drive(case, &mut memory),
+        Call::Drive | Call::LinesDrive => drive(case, &mut memory),
         Call::Check => check(case, &mut memory),
+        Call::Lines => crossing_lines(case, &mut memory),
         Call::Read => read(case, &mut memory),
         Call::Write => write(case, &mut memory),
         Call::WriteSheet => write_sheet(case, &mut memory),
@@ -108,7 +109,11 @@ fn region(case: &Case, memory: &mut Memory) -> Answer {
 
 fn drive(case: &Case, memory: &mut Memory) -> Answer {
     let before = &case.before;
-    let after = drives::drive(asking(case), &before.region, &before.route, before.state);
+    let make = match case.call {
+        Call::Drive => drives::drive,
+        _ => lines::lines_drive,
+    };
+    let after = make(asking(case), &before.region, &before.route, before.state);
     memory.labels = after.labels;
     memory.region = after.region;
     memory.route = after.route;
@@ -122,6 +127,17 @@ fn check(case: &Case, memory: &mut Memory) -> Answer {
     let answer = vec![
         ("reason", usize::from(after.reason)),
         ("position", after.position),
+    ];
+    (after.refusal, answer)
+}
+
+fn crossing_lines(case: &Case, memory: &mut Memory) -> Answer {
+    let after = lines::lines(asking(case));
+    memory.labels = after.labels;
+    let answer = vec![
+        ("yes", usize::from(after.yes)),
+        ("column", after.column),
+        ("row", after.row),
     ];
     (after.refusal, answer)
 }

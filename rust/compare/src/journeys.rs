@@ -18,6 +18,9 @@ pub struct Journeys {
     pub short_of_it: u64,
     /// Assured since Req 02 alone: an offset that equals home's distance.
     pub at_the_distance: u64,
+    /// By both tests, by crossing lines alone, by assurance alone, by neither though there is a
+    /// shortest drive, and by neither where there is none.
+    pub tests: [u64; 5],
     pub faults: Vec<String>,
 }
 
@@ -30,6 +33,11 @@ impl Journeys {
             self.short_of_it + self.at_the_distance,
             self.at_the_distance,
             if self.faults.is_empty() { "yes" } else { "NO" }
+        );
+        let [both, lines, assured, neither, none] = self.tests;
+        println!(
+            "both tests: a drive is sure by crossing lines and by assurance for {both} of them, by crossing lines alone for {lines}, by assurance alone \
+             for {assured}, by neither though there is one for {neither}; {none} have none"
         );
     }
 }
@@ -75,6 +83,36 @@ impl Asked {
             )
         }
         .assured
+    }
+
+    fn lines(&mut self, s: Crossing, d: Crossing) -> bool {
+        let (w, h, n) = (self.map.width, self.map.height, self.list.len());
+        let (list, labels) = (self.list.as_ptr(), self.labels.as_mut_ptr());
+        let size = self.labels.len();
+        unsafe { sys::bodkin_lines(list, n, n, w, h, s.x, s.y, d.x, d.y, labels, size) }.yes
+    }
+
+    fn has_drive(&mut self, s: Crossing, d: Crossing) -> bool {
+        let (w, h, n) = (self.map.width, self.map.height, self.list.len());
+        let (list, labels) = (self.list.as_ptr(), self.labels.as_mut_ptr());
+        let size = self.labels.len();
+        let mut sheet = vec![0; size];
+        let region = sheet.as_mut_ptr();
+        0 == unsafe {
+            sys::bodkin_region(
+                list, n, n, w, h, s.x, s.y, d.x, d.y, labels, size, region, size,
+            )
+        }
+    }
+
+    /// Which test says that a drive is sure: a place among `Journeys`' five.
+    fn tests(&mut self, home: Crossing, place: Crossing) -> usize {
+        match (self.lines(home, place), self.assured(home, place)) {
+            (true, true) => 0,
+            (true, false) => 1,
+            (false, true) => 2,
+            (false, false) => 4 - usize::from(self.has_drive(home, place)),
+        }
     }
 
     fn four(&mut self, c: Crossing) -> [usize; 4] {
@@ -154,6 +192,13 @@ pub fn run(seed: u64) -> Journeys {
         }
         seen.pairs += 1;
         let [home, place] = ends;
+        let test = asked.tests(home, place);
+        seen.tests[test] += 1;
+        if test < 3 && !asked.has_drive(home, place) {
+            seen.faults.push(format!(
+                "journey {index}: a drive is sure, and there is none"
+            ));
+        }
         if !asked.assured(home, place) {
             continue;
         }

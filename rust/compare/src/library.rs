@@ -19,6 +19,8 @@ pub fn run(case: &Case) -> (After, Vec<&'static str>) {
         Call::Region => region(case, &mut lent),
         Call::Drive => drive(case, &mut lent),
         Call::Check => check(case, &mut lent),
+        Call::Lines => lines(case, &mut lent),
+        Call::LinesDrive => lines_drive(case, &mut lent),
         Call::Read => read(case, &mut lent),
         Call::Write => write(case, &mut lent),
         Call::WriteSheet => write_sheet(case, &mut lent),
@@ -251,6 +253,56 @@ fn check(case: &Case, lent: &mut Lendings) -> Answer {
         ("position", after.position),
     ];
     (after.refusal, answer)
+}
+
+fn lines(case: &Case, lent: &mut Lendings) -> Answer {
+    let [s, d] = case.places;
+    let after = unsafe {
+        sys::bodkin_lines(
+            lent.list.pointer(),
+            lent.list.len(),
+            case.count,
+            case.map.width,
+            case.map.height,
+            s.x,
+            s.y,
+            d.x,
+            d.y,
+            lent.labels.pointer(),
+            lent.labels.len(),
+        )
+    };
+    let answer = vec![
+        ("yes", usize::from(after.yes)),
+        ("column", after.column),
+        ("row", after.row),
+    ];
+    (after.refusal, answer)
+}
+
+fn lines_drive(case: &Case, lent: &mut Lendings) -> Answer {
+    let [s, d] = case.places;
+    let after = unsafe {
+        sys::bodkin_lines_drive(
+            lent.list.pointer(),
+            lent.list.len(),
+            case.count,
+            case.map.width,
+            case.map.height,
+            s.x,
+            s.y,
+            d.x,
+            d.y,
+            lent.labels.pointer(),
+            lent.labels.len(),
+            lent.region.pointer(),
+            lent.region.len(),
+            lent.route.pointer(),
+            lent.route.len(),
+            lent.state.pointer(),
+        )
+    };
+    (after.refusal, vec![("length", after.length)])
 }
 
 fn read(_: &Case, lent: &mut Lendings) -> Answer {

@@ -12,7 +12,7 @@ use crate::random::{Random, Weighted};
 use independent::map::Map;
 
 /// How often each call is made, by weight.
-const WEIGHTS: [Weighted<Call>; 14] = [
+const WEIGHTS: [Weighted<Call>; 16] = [
     ("enter", 9, Call::Enter),
     ("clear", 6, Call::Clear),
     ("label", 10, Call::Label),
@@ -23,6 +23,8 @@ const WEIGHTS: [Weighted<Call>; 14] = [
     ("region", 8, Call::Region),
     ("drive", 12, Call::Drive),
     ("check", 15, Call::Check),
+    ("lines", 14, Call::Lines),
+    ("lines drive", 15, Call::LinesDrive),
     ("read", 17, Call::Read),
     ("write", 7, Call::Write),
     ("write a sheet", 12, Call::WriteSheet),
@@ -110,13 +112,13 @@ fn lend_buffers(random: &mut Random, case: &mut Case) {
     if case.call.sheets() > 0 {
         case.before.labels = random.bytes(crossings);
     }
-    if matches!(case.call, Call::Region | Call::Drive) {
+    if matches!(case.call, Call::Region | Call::Drive | Call::LinesDrive) {
         case.before.region = random.bytes(crossings);
     }
     if case.call == Call::Measure {
         case.before.sheets = std::array::from_fn(|_| random.bytes(crossings));
     }
-    if case.call == Call::Drive {
+    if matches!(case.call, Call::Drive | Call::LinesDrive) {
         let needed = case.places[0].distance(case.places[1]) + 1;
         let length = about(random, case, needed);
         case.before.route = (0..length).map(|_| random.word()).collect();

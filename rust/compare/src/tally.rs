@@ -2,10 +2,14 @@
 //! cases are made of was used.
 use crate::case::{After, Call, Case, CALLS};
 use crate::{drawings, edits, harms, lists, making, mapfiles, maps, picturefiles, places};
+use independent::asking::Labelled;
+use independent::distances::is_assured;
+use independent::drives::region_of;
+use independent::lines::lines_of;
 use std::collections::BTreeMap;
 
 /// Refusal numbers go to this.
-const LAST: usize = 18;
+const LAST: usize = 19;
 
 /// A run with fewer cases is not held to reach everything.
 pub const WHOLE: u64 = 100_000;
@@ -105,6 +109,10 @@ fn kinds(case: &Case, after: &After) -> Option<&'static str> {
         (Call::Hop, 0, 0) => Some("answered: there"),
         (Call::Hop, 0, 1) => Some("answered: one hop"),
         (Call::Hop, 0, _) => Some("answered: two hops"),
+        (Call::Lines, 0, yes) => Some(assurances(case, yes != 0)),
+        (Call::LinesDrive, 0, 1) => Some("answered: a drive by lines of no hops"),
+        (Call::LinesDrive, 0, _) => Some(by_way(case)),
+        (Call::LinesDrive, 19, _) if short(case) => Some("answered: 19 before 10"),
         (Call::Drive, 0, 1) => Some("answered: a drive of no hops"),
         (Call::Drive, 0, 61..) => Some("answered: a drive of 60 hops or more"),
         (Call::Check, 0, reason) => Some(found(reason, after.answer[1].1, case.before.drawn.len())),
@@ -113,6 +121,48 @@ fn kinds(case: &Case, after: &After) -> Option<&'static str> {
         }
         _ => None,
     }
+}
+
+/// Pairs of open places by the two tests: "Either test may say yes where the other says no."
+const TESTS: [&str; 5] = [
+    "pairs: crossing lines and assured",
+    "pairs: crossing lines alone",
+    "pairs: assured alone",
+    "pairs: neither, though there is a drive",
+    "pairs: neither, and no drive",
+];
+
+/// s as home, d as the place.
+fn assurances(case: &Case, lines: bool) -> &'static str {
+    let on = Labelled::new(case.map, &case.before.list[..case.count]);
+    let [s, d] = case.places;
+    let drive = || !region_of(&on, s, d).is_empty();
+    match (lines, is_assured(&on, s, d)) {
+        (true, true) => TESTS[0],
+        (true, false) => TESTS[1],
+        (false, true) => TESTS[2],
+        (false, false) if drive() => TESTS[3],
+        (false, false) => TESTS[4],
+    }
+}
+
+/// Where the lines meet: at an end, or on the way.
+const MEETINGS: [&str; 2] = [
+    "answered: a drive by lines that meet at an end",
+    "answered: a drive by lines that meet on the way",
+];
+
+fn by_way(case: &Case) -> &'static str {
+    let on = Labelled::new(case.map, &case.before.list[..case.count]);
+    let [s, d] = case.places;
+    let meeting = lines_of(&on, s, d);
+    MEETINGS[usize::from(meeting != Some(s) && meeting != Some(d))]
+}
+
+/// The route is too short as well.
+fn short(case: &Case) -> bool {
+    let [s, d] = case.places;
+    case.before.route.len() < s.distance(d) + 1
 }
 
 /// What the check found: every reason at every kind of position at which it can be.
@@ -166,6 +216,12 @@ fn names() -> Vec<&'static str> {
         "answered: no slot by the limit, though the list has one",
         "a list of no slots",
     ];
+    names.extend([
+        "answered: a drive by lines of no hops",
+        "answered: 19 before 10",
+    ]);
+    names.extend(TESTS);
+    names.extend(MEETINGS);
     names.extend(FOUND);
     names.extend(drawings::BEGINNINGS.iter().map(|(name, _, _)| *name));
     names.extend(drawings::CHANGES.iter().map(|(name, _, _)| *name));
@@ -208,7 +264,7 @@ mod tests {
         let mut tally = Tally::new();
         let case = making::make(1, 1);
         let (mut after, _) = library::run(&case);
-        for strange in [19, 255] {
+        for strange in [20, 255] {
             after.refusal = strange;
             tally.count(&case, &after);
         }

@@ -1,4 +1,4 @@
-//! The fourteen calls of the proved static library, as `include/grainbodkin.h` declares them. A slice
+//! The sixteen calls of the proved static library, as `include/grainbodkin.h` declares them. A slice
 //! goes as pointer and length.
 //!
 //! A pointer is not null, even where its length is 0; it is aligned for its type and points to as
@@ -83,6 +83,17 @@ pub struct Checked {
     pub refusal: u8,
     pub reason: u8,
     pub position: usize,
+}
+
+/// Whether two places have crossing lines, and if so the westmost column and the southmost row;
+/// zeros beside a no; or the refusal.
+#[repr(C)]
+#[derive(Clone, Copy, Debug, PartialEq, Eq)]
+pub struct CrossingLines {
+    pub refusal: u8,
+    pub yes: bool,
+    pub column: usize,
+    pub row: usize,
 }
 
 /// Width, height and number of markers of a map that was read, or the refusal.
@@ -259,6 +270,39 @@ extern "C" {
         drawn: *const u16,
         drawn_len: usize,
     ) -> Checked;
+
+    pub fn bodkin_lines(
+        list: *const Marker,
+        lent: usize,
+        count: usize,
+        width: usize,
+        height: usize,
+        sx: usize,
+        sy: usize,
+        dx: usize,
+        dy: usize,
+        labels: *mut u8,
+        labels_len: usize,
+    ) -> CrossingLines;
+
+    pub fn bodkin_lines_drive(
+        list: *const Marker,
+        lent: usize,
+        count: usize,
+        width: usize,
+        height: usize,
+        sx: usize,
+        sy: usize,
+        dx: usize,
+        dy: usize,
+        labels: *mut u8,
+        labels_len: usize,
+        region: *mut u8,
+        region_len: usize,
+        route: *mut u16,
+        route_len: usize,
+        state: *mut u32,
+    ) -> Drove;
 
     pub fn bodkin_read(file: *const u8, file_len: usize, list: *mut Marker, lent: usize)
         -> ReadMap;

@@ -5,8 +5,8 @@ use grainbodkin::{
     Map, Reason, Refusal, LARGEST, LONGEST_FILE, LONGEST_PICTURE, MARKERS, NO_DISTANCE, SIDE, STACK,
 };
 use grainbodkin_sys::{
-    Assurance, Checked, Counted, Drove, Four, Homeward, Labelling, Marker, ReadMap, SheetRead,
-    SheetWritten, WroteMap,
+    Assurance, Checked, Counted, CrossingLines, Drove, Four, Homeward, Labelling, Marker, ReadMap,
+    SheetRead, SheetWritten, WroteMap,
 };
 use std::mem::{align_of, offset_of, size_of, size_of_val};
 
@@ -81,6 +81,15 @@ fn main() {
             refusal: 0,
             reason: 0,
             position: 0
+        }
+    );
+    layout!(
+        "crossing_lines",
+        CrossingLines {
+            refusal: 0,
+            yes: false,
+            column: 0,
+            row: 0
         }
     );
     layout!(

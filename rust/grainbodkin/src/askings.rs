@@ -1,8 +1,8 @@
 //! The askings of an owned list. Each takes memory for its sheets, for so long as it needs them.
 
 use crate::{
-    Chooser, Clear, Distances, Drive, Finding, Hops, Labels, Markers, Place, Refusal, Region,
-    LONGEST_FILE,
+    Chooser, Clear, Distances, Drive, Finding, Hops, Labels, Lines, Markers, Place, Refusal,
+    Region, LONGEST_FILE,
 };
 
 impl Markers {
@@ -194,6 +194,45 @@ impl Markers {
     /// ```
     pub fn check(&self, s: Place, d: Place, drawn: &[u16]) -> Result<Finding, Refusal> {
         self.lend().check(s, d, &mut self.sheet(), drawn)
+    }
+
+    /// The crossing lines of s and d, or that there are none. [`Lines`] has an example.
+    ///
+    /// # Errors
+    ///
+    /// Refuses 4 or 8.
+    pub fn lines(&self, s: Place, d: Place) -> Result<Option<Lines>, Refusal> {
+        self.lend().lines(s, d, &mut self.sheet())
+    }
+
+    /// The drive from s to d by way of the crossing where their crossing lines meet, made by the
+    /// chooser, which moves on. It is a shortest drive.
+    ///
+    /// # Errors
+    ///
+    /// Refuses 4, 8 or 19; then the chooser is unchanged.
+    ///
+    /// ```
+    /// use grainbodkin::{Chooser, Finding, Map, Markers, Place};
+    ///
+    /// let mut markers = Markers::new(Map::new(8, 8)?, 1);
+    /// markers.enter(1, Place::new(1, 0))?;
+    /// let (s, d) = (Place::new(0, 0), Place::new(4, 3));
+    /// let lines = markers.lines(s, d)?.expect("there are lines");
+    /// let drive = markers.lines_drive(s, d, &mut Chooser(0))?;
+    /// assert!(drive.places().any(|place| place == lines.meeting()));
+    /// assert_eq!(markers.check(s, d, drive.numbers())?, Finding::Accepted);
+    /// # Ok::<(), grainbodkin::Refusal>(())
+    /// ```
+    pub fn lines_drive(&self, s: Place, d: Place, chooser: &mut Chooser) -> Result<Drive, Refusal> {
+        // No shortest drive has more crossings than a row and a column together.
+        let mut route = vec![0; self.map().width() + self.map().height()];
+        let (mut labels, mut region) = (self.sheet(), self.sheet());
+        let list = self.lend();
+        let filled = list.lines_drive(s, d, &mut labels, &mut region, &mut route, chooser)?;
+        let length = filled.len();
+        route.truncate(length);
+        Ok(Drive::new(self.map(), route))
     }
 
     /// Writes the list as a PBM map, P4. Reading it gives the same crossings.

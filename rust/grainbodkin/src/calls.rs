@@ -1,4 +1,4 @@
-//! The fourteen calls of the static library, lent slices in place of pointers and lengths. All of the
+//! The sixteen calls of the static library, lent slices in place of pointers and lengths. All of the
 //! crate's `unsafe` is here.
 //!
 //! The library asks five things of its caller; for all else it answers or refuses. Four hold for
@@ -267,6 +267,64 @@ pub(crate) fn check(
             labels.len(),
             drawn.as_ptr(),
             drawn.len(),
+        )
+    }
+}
+
+pub(crate) fn lines(
+    list: MarkersRef<'_>,
+    s: Place,
+    d: Place,
+    labels: &mut [u8],
+) -> sys::CrossingLines {
+    // SAFETY: each pointer stands before its own slice's length. Only `labels` is written, and it
+    // is lent by `&mut`.
+    unsafe {
+        sys::bodkin_lines(
+            pointer(list.slots),
+            list.slots.len(),
+            list.count,
+            list.width,
+            list.height,
+            s.x,
+            s.y,
+            d.x,
+            d.y,
+            labels.as_mut_ptr(),
+            labels.len(),
+        )
+    }
+}
+
+pub(crate) fn lines_drive(
+    list: MarkersRef<'_>,
+    s: Place,
+    d: Place,
+    labels: &mut [u8],
+    region: &mut [u8],
+    route: &mut [u16],
+    state: &mut u32,
+) -> sys::Drove {
+    // SAFETY: each pointer stands before its own slice's length, and `state` is one number. The
+    // sheets, the route and the state, which are written, are lent by `&mut` each.
+    unsafe {
+        sys::bodkin_lines_drive(
+            pointer(list.slots),
+            list.slots.len(),
+            list.count,
+            list.width,
+            list.height,
+            s.x,
+            s.y,
+            d.x,
+            d.y,
+            labels.as_mut_ptr(),
+            labels.len(),
+            region.as_mut_ptr(),
+            region.len(),
+            route.as_mut_ptr(),
+            route.len(),
+            state,
         )
     }
 }

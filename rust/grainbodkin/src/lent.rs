@@ -1,12 +1,12 @@
 //! The calls over a list that the caller lends: the borrowed forms.
 
-use crate::{calls, Chooser, Clear, Finding, Hops, Labelling, Map, Marker, Place, Refusal};
+use crate::{calls, Chooser, Clear, Finding, Hops, Labelling, Lines, Map, Marker, Place, Refusal};
 
 /// A lent list of markers with its count, and the size of the map that it is for.
 ///
 /// Every value is allowed in every field: a call answers by the lowest refusal that applies, or
 /// succeeds. Sheets, routes and outputs are lent by the caller too, so nothing is copied and
-/// nothing is allocated, and at refusals 8, 9, 10 and 11 the caller sees what the sheets hold.
+/// nothing is allocated, and at refusals 8, 9, 10, 11 and 19 the caller sees what the sheets hold.
 /// [`Markers`](crate::Markers) has the same calls with memory of its own.
 ///
 /// Slots past the count are never read. No call on this type changes a slot.
@@ -199,6 +199,65 @@ impl MarkersRef<'_> {
     ) -> Result<Finding, Refusal> {
         let answer = calls::check(self, s, d, labels, drawn);
         Refusal::or(answer.refusal, Finding::new(answer.reason, answer.position))
+    }
+
+    /// The crossing lines of s and d, or that there are none. `labels` holds the labels.
+    ///
+    /// # Errors
+    ///
+    /// Refuses 1, 2, 3 or 4, and then no byte changes; or 8, and then `labels` holds the labels.
+    pub fn lines(self, s: Place, d: Place, labels: &mut [u8]) -> Result<Option<Lines>, Refusal> {
+        let answer = calls::lines(self, s, d, labels);
+        let lines = Lines {
+            column: answer.column,
+            row: answer.row,
+        };
+        Refusal::or(answer.refusal, answer.yes.then_some(lines))
+    }
+
+    /// The drive from s to d by way of the crossing where their crossing lines meet: the drive to
+    /// there, then the one from there, with the state handed on and the meeting crossing written
+    /// once. Hands back the filled part of the route, crossing numbers, s first and d last. The rest
+    /// of the route is unchanged. `labels` holds the labels and `region` the region of s and d, and
+    /// the chooser moves on.
+    ///
+    /// # Errors
+    ///
+    /// Refuses 1, 2, 3 or 4, and then no byte changes; or 8, 19 or 10, in this order, and then
+    /// `labels` holds the labels, `region` is unchanged at 8 and 19 and the region at 10, and route
+    /// and chooser are unchanged.
+    ///
+    /// ```
+    /// use grainbodkin::{Chooser, Marker, MarkersRef, Place, Refusal};
+    ///
+    /// let slots = [Marker::new(1, 1, 0)];
+    /// let list = MarkersRef { slots: &slots, count: 1, width: 8, height: 8 };
+    /// let (mut labels, mut region) = ([0; 64], [9; 64]);
+    /// let mut route = [9; 6];
+    /// let mut chooser = Chooser(7);
+    /// let (s, d) = (Place::new(0, 0), Place::new(2, 1));
+    /// let filled = list.lines_drive(s, d, &mut labels, &mut region, &mut route, &mut chooser)?;
+    /// assert_eq!(filled, [0, 8, 9, 10]);
+    ///
+    /// // From (0,0) to (2,0) the rock lies between: no row is open. The route is too short as well.
+    /// region = [9; 64];
+    /// let d = Place::new(2, 0);
+    /// let refused = list.lines_drive(s, d, &mut labels, &mut region, &mut [], &mut chooser);
+    /// assert_eq!(refused, Err(Refusal::NoLines));
+    /// assert_eq!((region, chooser), ([9; 64], Chooser(7)));
+    /// # Ok::<(), Refusal>(())
+    /// ```
+    pub fn lines_drive<'r>(
+        self,
+        s: Place,
+        d: Place,
+        labels: &mut [u8],
+        region: &mut [u8],
+        route: &'r mut [u16],
+        chooser: &mut Chooser,
+    ) -> Result<&'r mut [u16], Refusal> {
+        let answer = calls::lines_drive(self, s, d, labels, region, route, &mut chooser.0);
+        Refusal::or(answer.refusal, &mut route[..answer.length])
     }
 
     /// Writes the list as a PBM map, P4, to the front of `out`, and hands back the number of bytes

@@ -2,10 +2,11 @@
 //!
 //! It keeps a list of rock markers, labels the crossings of one rectangular map, gives clear
 //! distances, tells whether home is assured, gives the region of shortest drives, makes a drive,
-//! checks a drive that was drawn by hand, gives single hops homeward, reads PBM (plain P1 and raw
-//! P4) and writes P4, and writes sheets of distances as raw PGM pictures and reads them back. The
-//! work is done by the proved static library `liblayer.a`; this crate lends its fourteen calls in
-//! Rust's manner, with nothing `unsafe` in its interface.
+//! checks a drive that was drawn by hand, finds crossing lines and makes the drive by way of where
+//! they meet, gives single hops homeward, reads PBM (plain P1 and raw P4) and writes P4, and writes
+//! sheets of distances as raw PGM pictures and reads them back. The work is done by the proved
+//! static library `liblayer.a`; this crate lends its sixteen calls in Rust's manner, with nothing
+//! `unsafe` in its interface.
 //!
 //! A journey: read a map, label it, ask whether home is assured, hop home.
 //!
@@ -51,6 +52,7 @@ mod drives;
 mod hops;
 mod labels;
 mod lent;
+mod lines;
 mod map;
 mod marker;
 mod markers;
@@ -65,6 +67,7 @@ pub use drives::{Chooser, Drive, Region};
 pub use hops::Hops;
 pub use labels::{Label, Labelling, Labels};
 pub use lent::{MarkersMut, MarkersRef};
+pub use lines::Lines;
 pub use map::{Map, Place, LONGEST_FILE, LONGEST_PICTURE, SIDE};
 pub use marker::{Marker, MARKERS};
 pub use markers::Markers;

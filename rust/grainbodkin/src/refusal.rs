@@ -5,15 +5,15 @@ use std::fmt;
 
 use crate::{MARKERS, SIDE};
 
-/// Why a call is refused: eighteen cases, each with its number.
+/// Why a call is refused: nineteen cases, each with its number.
 ///
-/// A call gives the lowest number that applies. Reading a file goes 12, 13 in the header, 1, then
-/// the raster: at the first fault met 13, 14 or 15, then 7. Reading a picture goes 12, 13, 1, 18,
-/// 2, 14, 15.
+/// A call gives the lowest number that applies, but 19 before 10. Reading a file goes 12, 13 in the
+/// header, 1, then the raster: at the first fault met 13, 14 or 15, then 7. Reading a picture goes
+/// 12, 13, 1, 18, 2, 14, 15.
 ///
-/// Refusals 1 to 7 and 12 to 18 change nothing that is lent. At 8, 9, 10 and 11 a lent label sheet
-/// holds the labels; a lent region sheet is unchanged at 8, all 0 at 9 and the region at 10; a
-/// route and a chooser are unchanged.
+/// Refusals 1 to 7 and 12 to 18 change nothing that is lent. At 8, 9, 10, 11 and 19 a lent label
+/// sheet holds the labels; a lent region sheet is unchanged at 8 and 19, all 0 at 9 and the region
+/// at 10; a route and a chooser are unchanged.
 ///
 /// ```
 /// use grainbodkin::{Map, Refusal};
@@ -41,7 +41,8 @@ pub enum Refusal {
     IdNotInUse = 6,
     /// 7: no slot: the count, or a file's rocks, would pass the list lent or [`MARKERS`].
     NoSlot = 7,
-    /// 8: assurance, hop, region or drive asked, and an end (home, place, s or d) is closed.
+    /// 8: assurance, hop, region, drive, check or crossing lines asked, and an end (home, place, s
+    /// or d) is closed.
     EndClosed = 8,
     /// 9: region or drive asked, both ends are open, and there is no shortest drive.
     NoDrive = 9,
@@ -65,11 +66,13 @@ pub enum Refusal {
     ShortOutput = 17,
     /// 18: a picture's largest value is other than 255.
     BadLargest = 18,
+    /// 19: a drive by way of crossing lines asked, and there are none.
+    NoLines = 19,
 }
 
 impl Refusal {
     /// Every refusal, in the order of the numbers.
-    pub const ALL: [Refusal; 18] = [
+    pub const ALL: [Refusal; 19] = [
         Refusal::BadSize,
         Refusal::BadSheet,
         Refusal::BadList,
@@ -88,16 +91,17 @@ impl Refusal {
         Refusal::SharedCrossing,
         Refusal::ShortOutput,
         Refusal::BadLargest,
+        Refusal::NoLines,
     ];
 
-    /// The refusal's number, 1 to 18.
+    /// The refusal's number, 1 to 19.
     pub const fn number(self) -> u8 {
         self as u8
     }
 
     /// The answer where the library's number is 0, else the refusal with that number.
     ///
-    /// The library gives no number over 18. One that did would not be this library: that is never
+    /// The library gives no number over 19. One that did would not be this library: that is never
     /// taken as success.
     pub(crate) fn or<T>(number: u8, answer: T) -> Result<T, Refusal> {
         match number {
@@ -138,13 +142,14 @@ impl fmt::Display for Refusal {
             Refusal::SharedCrossing => f.write_str("two markers stand on one crossing"),
             Refusal::ShortOutput => f.write_str("the output is too short for the whole file"),
             Refusal::BadLargest => f.write_str("the picture's largest value is other than 255"),
+            Refusal::NoLines => f.write_str("no column and row between the ends are open throughout"),
         }
     }
 }
 
 impl Error for Refusal {}
 
-/// A number that is no refusal's: 0, which is success, or a number over 18.
+/// A number that is no refusal's: 0, which is success, or a number over 19.
 #[derive(Clone, Copy, Debug, PartialEq, Eq, Hash)]
 pub struct NoRefusal(
     /// The number.
@@ -166,7 +171,7 @@ impl Error for NoRefusal {}
 ///
 /// assert_eq!(Refusal::try_from(9), Ok(Refusal::NoDrive));
 /// assert_eq!(Refusal::try_from(0), Err(NoRefusal(0)));
-/// assert_eq!(Refusal::try_from(19), Err(NoRefusal(19)));
+/// assert_eq!(Refusal::try_from(20), Err(NoRefusal(20)));
 /// ```
 impl TryFrom<u8> for Refusal {
     type Error = NoRefusal;

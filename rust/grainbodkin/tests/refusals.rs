@@ -8,7 +8,7 @@ use std::error::Error;
 use common::{at, bad_lists, eight, slots, Lent, ASKINGS, BAD_SIZES, R};
 use grainbodkin::{Map, Markers, MarkersRef, NoRefusal, Refusal, SIDE};
 
-/// Asks all seven, and sees that each is refused so and changes nothing that is lent.
+/// Asks all of them, and sees that each is refused so and changes nothing that is lent.
 fn all_refuse(list: MarkersRef<'_>, lent: &Lent, refusal: Refusal) {
     for (name, ask) in ASKINGS {
         let mut after = lent.clone();
@@ -25,7 +25,7 @@ fn numbers_and_back() {
         assert_eq!(u8::from(refusal), number);
         assert_eq!(Refusal::try_from(number), Ok(refusal));
     }
-    for number in (19..=255).chain([0]) {
+    for number in (20..=255).chain([0]) {
         assert_eq!(Refusal::try_from(number), Err(NoRefusal(number)));
     }
 }
@@ -101,7 +101,7 @@ fn a_sheet_of_another_size_is_refused_2() {
 fn each_lent_sheet_counts() {
     type Sheet = fn(&mut Lent) -> &mut Vec<u8>;
     let sheets: [(Sheet, &[&str]); 5] = [
-        (|lent| &mut lent.region, &["region", "drive"]),
+        (|lent| &mut lent.region, &["region", "drive", "lines_drive"]),
         (|lent| &mut lent.east, &["measure"]),
         (|lent| &mut lent.south, &["measure"]),
         (|lent| &mut lent.west, &["measure"]),
@@ -227,6 +227,8 @@ fn every_number_is_reached() {
     markers.clear(4).unwrap();
     reached.push(markers.lend().write(&mut [0; 14]).unwrap_err());
     reached.push(grainbodkin::read_sheet(b"P5 1 1 9 .", &mut [0]).unwrap_err());
+    let by_lines = markers.lines_drive(at(0, 2), at(7, 2), &mut chooser);
+    reached.push(by_lines.unwrap_err());
     assert_eq!(reached, Refusal::ALL);
 }
 

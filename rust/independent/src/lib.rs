@@ -17,6 +17,7 @@ pub mod files;
 pub mod following;
 pub mod hops;
 pub mod labels;
+pub mod lines;
 pub mod map;
 pub mod markers;
 pub mod pictures;

@@ -1,6 +1,6 @@
 -- The crossing lines are fixed by the map: there is one westmost open column and one southmost open
 -- row, and where there are such lines at all, they can be found by going through the rectangle.
-use mathlib.Core.Path.{_≡_, sym, subst, _∙_}
+use mathlib.Core.Path.{_≡_, refl, sym, subst, ap₂, _∙_}
 use mathlib.Core.List.{List, _∷_}
 use Prim.Native.Nat.{ℕ, zero, suc, _+_, _<_, _≤_, min, max}
 use native.Mathlib.Omega.{arith}
@@ -8,7 +8,7 @@ use native.Mathlib.Decide.{decLe}
 use Rattle.field.specs.Map.{OnMap, number}
 use Rattle.field.specs.Labels.{Open}
 use Rattle.field.specs.Chooser.{Driven}
-use Rattle.field.specs.CrossingLines.{OpenColumn, OpenRow, Lines, HasLines, DrivenBy}
+use Rattle.field.specs.CrossingLines.{OpenColumn, OpenRow, Lines, HasLines, LinesAnswer, says-no, says-yes, Says, DrivenBy}
 use Rattle.field.specs.Workings.Marks.{decided, decided-draws}
 use Rattle.field.specs.Workings.AssuredLaws.{open-dec}
 use Rattle.field.specs.Workings.ChooserLaws.{driven-one}
@@ -24,7 +24,8 @@ module _ {w h : ℕ} {C : ℕ → ℕ → Type 0} {sx sy dx dy : ℕ} where
   pub lines-yes : {c r : ℕ} → Lines w h C sx sy dx dy c r → HasLines w h C sx sy dx dy
   lines-yes {c} {r} p = record { column = c; row = r; column-open = p .column-open; row-open = p .row-open }
 
-  -- The drive by way of a crossing, and the state after it, are fixed by the crossing and the state.
+  -- The drive by way of a crossing, and the state after it, are fixed by the crossing and the
+  -- state.
   pub driven-by-one : {x y z z′ z″ : ℕ} {l m : List ℕ} → DrivenBy w h C sx sy dx dy x y z l z′ → DrivenBy w h C sx sy dx dy x y z m z″ → (l ≡ m) × (z′ ≡ z″)
   driven-by-one {x} {y} p q =
       let a = driven-one w h C sx sy x y (p .to-meeting) (q .to-meeting) in
@@ -32,6 +33,13 @@ module _ {w h : ℕ} {C : ℕ → ℕ → Type 0} {sx sy dx dy : ℕ} where
       let first : p .first ≡ q .first = a .0 in
       let rest : p .onward ≡ q .onward = cc in
       (p .joined ∙ rw (first, rest) (sym (q .joined)), b .1)
+
+-- One answer of the test.
+pub said-one : (w h : ℕ) (C : ℕ → ℕ → Type 0) (sx sy dx dy : ℕ) (a b : LinesAnswer) → Says w h C sx sy dx dy a → Says w h C sx sy dx dy b → a ≡ b
+said-one w h C sx sy dx dy says-no says-no p q = refl
+said-one w h C sx sy dx dy says-no (says-yes c r) p q = absurd (p (lines-yes q))
+said-one w h C sx sy dx dy (says-yes c r) says-no p q = absurd (q (lines-yes p))
+said-one w h C sx sy dx dy (says-yes c r) (says-yes d s) p q = let e = lines-one p q in ap₂ says-yes (e .0) (e .1)
 
 -- The least of the numbers from a on, k of them, that are in P, or that there is none.
 module _ (P : ℕ → Type 0) (dec : (n : ℕ) → Dec (P n)) where

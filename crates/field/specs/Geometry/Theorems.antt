@@ -23,6 +23,7 @@ use Rattle.field.specs.Geometry.Groups
 use Rattle.field.specs.Geometry.WayHome
 use Rattle.field.specs.Geometry.HomeDrives
 use Rattle.field.specs.Geometry.Meeting
+use Rattle.field.specs.Workings.CrossingLaws
 use Rattle.field.specs.Geometry.LinesLaws
 use Rattle.field.specs.Geometry.DepotLaws
 
@@ -149,6 +150,11 @@ module _ (R : ℕ → ℕ → Type 0) (w h : ℕ) (sides : Sides w h) (dec : (x 
   pub driven-by-shortest : (sx sy dx dy x y : ℕ) {z z′ : ℕ} {l : List ℕ} → OpenColumn w h D sx sy dx dy x → OpenRow w h D sx sy dx dy y
       → Open w h D sx sy → Open w h D dx dy → DrivenBy w h D sx sy dx dy x y z l z′ → ShortestDrive w h D sx sy dx dy l
   driven-by-shortest = Meeting.driven-by-shortest w h sides D (closed-on-map R w h) (closed-stable R w h) dec
+
+  -- There is such a drive from every state.
+  pub driven-by-some : (sx sy dx dy x y : ℕ) → OpenColumn w h D sx sy dx dy x → OpenRow w h D sx sy dx dy y → Open w h D sx sy → Open w h D dx dy
+      → (z : ℕ) → (l : List ℕ) × (z′ : ℕ) × DrivenBy w h D sx sy dx dy x y z l z′
+  driven-by-some = CrossingLaws.driven-by-some w h sides D (closed-on-map R w h) (closed-stable R w h) dec
 
   -- Where the test says yes there are a westmost column and a southmost row, and no two.
   pub lines-some : (sx sy dx dy : ℕ) → HasLines w h D sx sy dx dy → (c : ℕ) × (r : ℕ) × Lines w h D sx sy dx dy c r

@@ -11,6 +11,7 @@ use Rattle.field.specs.Distances.{Way, Clear, at-closed, nearest, none, 
 use Rattle.field.specs.Hops.{HopAnswer, Permitted, Answers, at-home, just, both}
 use Rattle.field.specs.Drives.{Drive, last, next, HasDrive, InRegion, InOut, is-in, is-out, RegionSheet}
 use Rattle.field.specs.Chooser.{Candidate, Chosen, alone, east-west, north-south, Driven, arrived, onward}
+use Rattle.field.specs.CrossingLines.{OpenColumn, OpenRow, Lines, HasLines, DrivenBy}
 use Rattle.field.specs.Workings.Counting.{count-moved}
 
 -- C and D have the same crossings.
@@ -84,6 +85,17 @@ module _ (w h : ℕ) {C D : ℕ → ℕ → Type 0} (a : Alike C D) where
   linked-same (here {a = u} {b = v} p q c) = here p q (a u v .0 c)
   linked-same (step {c = u} {d = v} l n c) = step (linked-same l) n (a u v .0 c)
 
+  -- Crossing lines.
+  pub open-column-same : {sx sy dx dy x : ℕ} → OpenColumn w h C sx sy dx dy x → OpenColumn w h D sx sy dx dy x
+  open-column-same p = record { between = p .between; throughout = λ y b. open-same (p .throughout y b) }
+
+  pub open-row-same : {sx sy dx dy y : ℕ} → OpenRow w h C sx sy dx dy y → OpenRow w h D sx sy dx dy y
+  open-row-same p = record { between = p .between; throughout = λ x b. open-same (p .throughout x b) }
+
+  pub has-lines-same : {sx sy dx dy : ℕ} → HasLines w h C sx sy dx dy → HasLines w h D sx sy dx dy
+  has-lines-same p =
+      record { column = p .column; row = p .row; column-open = open-column-same (p .column-open); row-open = open-row-same (p .row-open) }
+
 -- These look both ways: what is not so for the one is not so for the other.
 module _ (w h : ℕ) {C D : ℕ → ℕ → Type 0} (a : Alike C D) where
   pub answers-same : {hx hy x y : ℕ} {r : HopAnswer} → Answers w h C hx hy x y r → Answers w h D hx hy x y r
@@ -107,6 +119,26 @@ module _ (w h : ℕ) {C D : ℕ → ℕ → Type 0} (a : Alike C D) where
   pub driven-same : {sx sy dx dy x y z z′ : ℕ} {l : List ℕ} → Driven w h C sx sy dx dy x y z l z′ → Driven w h D sx sy dx dy x y z l z′
   driven-same (arrived p q e f) = arrived p q e f
   driven-same (onward c v e) = onward (chosen-same c) (driven-same v) e
+
+  pub lines-same : {sx sy dx dy c r : ℕ} → Lines w h C sx sy dx dy c r → Lines w h D sx sy dx dy c r
+  lines-same p =
+      record {
+        column-open = open-column-same w h a (p .column-open);
+        westmost = λ x k. p .westmost x (open-column-same w h (alike-back a) k);
+        row-open = open-row-same w h a (p .row-open);
+        southmost = λ y k. p .southmost y (open-row-same w h (alike-back a) k);
+      }
+
+  pub driven-by-same : {sx sy dx dy x y z z′ : ℕ} {l : List ℕ} → DrivenBy w h C sx sy dx dy x y z l z′ → DrivenBy w h D sx sy dx dy x y z l z′
+  driven-by-same p =
+      record {
+        first = p .first;
+        onward = p .onward;
+        handed-on = p .handed-on;
+        to-meeting = driven-same (p .to-meeting);
+        from-meeting = driven-same (p .from-meeting);
+        joined = p .joined;
+      }
 
   lowest-same : {x y : ℕ} → Lowest w C x y → Lowest w D x y
   lowest-same {x} {y} p = record { closed = a x y .0 (p .closed); lowest = λ c d l. p .lowest c d (linked-same w h (alike-back a) l) }

@@ -37,6 +37,7 @@ pub const LONG_RASTER: u8 = 15;
 pub const SHARED_CROSSING: u8 = 16;
 pub const SHORT_OUTPUT: u8 = 17;
 pub const BAD_LARGEST: u8 = 18;
+pub const NO_LINES: u8 = 19;
 
 /// The largest value of a picture.
 pub const LARGEST: usize = 255;

@@ -1,4 +1,4 @@
-//! The fourteen calls in plain safe Rust, by the library's methods: what the library is measured
+//! The sixteen calls in plain safe Rust, by the library's methods: what the library is measured
 //! against. Same interface, same refusals in the same order, same lent memory. No `unsafe`, nothing
 //! left out and nothing added to slow it down.
 #![forbid(unsafe_code)]
@@ -13,6 +13,7 @@ mod hops;
 mod judging;
 mod labelling;
 mod limits;
+mod lines;
 mod pictures;
 mod placing;
 mod raster;
@@ -24,8 +25,8 @@ mod writer;
 
 use crate::layer::{Layer, Listing};
 use grainbodkin_sys::{
-    Assurance, Checked, Counted, Drove, Four, Homeward, Labelling, Marker, ReadMap, SheetRead,
-    SheetWritten, WroteMap,
+    Assurance, Checked, Counted, CrossingLines, Drove, Four, Homeward, Labelling, Marker, ReadMap,
+    SheetRead, SheetWritten, WroteMap,
 };
 use judging::{fits, prepare};
 use limits::*;
@@ -243,6 +244,59 @@ impl Layer for Plain {
         };
         labelling::label(markers, w, h, labels);
         checks::check(labels, w, (sx, sy), (dx, dy), drawn)
+    }
+
+    #[inline(never)]
+    fn lines(
+        list: &[Marker],
+        count: usize,
+        w: usize,
+        h: usize,
+        sx: usize,
+        sy: usize,
+        dx: usize,
+        dy: usize,
+        labels: &mut [u8],
+    ) -> CrossingLines {
+        let markers = match prepare(list, count, w, h, (sx, sy), (dx, dy), true, labels) {
+            Ok(markers) => markers,
+            Err(refusal) => return lines::none(refusal),
+        };
+        labelling::label(markers, w, h, labels);
+        lines::test(labels, w, (sx, sy), (dx, dy))
+    }
+
+    #[inline(never)]
+    fn lines_drive(
+        list: &[Marker],
+        count: usize,
+        w: usize,
+        h: usize,
+        sx: usize,
+        sy: usize,
+        dx: usize,
+        dy: usize,
+        labels: &mut [u8],
+        region: &mut [u8],
+        route: &mut [u16],
+        state: &mut u32,
+    ) -> Drove {
+        let length = 0;
+        let others = fits(w, h, region.len());
+        let markers = match prepare(list, count, w, h, (sx, sy), (dx, dy), others, labels) {
+            Ok(markers) => markers,
+            Err(refusal) => {
+                return Drove { refusal, length };
+            }
+        };
+        labelling::label(markers, w, h, labels);
+        match lines::drive(labels, w, (sx, sy), (dx, dy), region, route, state) {
+            Err(refusal) => Drove { refusal, length },
+            Ok(length) => Drove {
+                refusal: SUCCESS,
+                length,
+            },
+        }
     }
 
     #[inline(never)]

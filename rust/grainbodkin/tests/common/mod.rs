@@ -83,8 +83,8 @@ impl Lent {
 /// An asking with home or s, and place or d.
 pub type Asking = fn(MarkersRef<'_>, Place, Place, &mut Lent) -> Result<(), Refusal>;
 
-/// The seven askings, by name.
-pub const ASKINGS: [(&str, Asking); 7] = [
+/// The askings, by name, but for the check of a drawn list.
+pub const ASKINGS: [(&str, Asking); 9] = [
     ("label", |list, _, _, m| list.label(&mut m.labels).map(drop)),
     ("distances", |list, _, place, m| {
         list.distances(place, &mut m.labels).map(drop)
@@ -105,6 +105,14 @@ pub const ASKINGS: [(&str, Asking); 7] = [
     ("drive", |list, s, d, m| {
         let (labels, region) = (&mut m.labels, &mut m.region);
         let filled = list.drive(s, d, labels, region, &mut m.route, &mut m.chooser);
+        filled.map(drop)
+    }),
+    ("lines", |list, s, d, m| {
+        list.lines(s, d, &mut m.labels).map(drop)
+    }),
+    ("lines_drive", |list, s, d, m| {
+        let (labels, region) = (&mut m.labels, &mut m.region);
+        let filled = list.lines_drive(s, d, labels, region, &mut m.route, &mut m.chooser);
         filled.map(drop)
     }),
 ];
