@@ -33,26 +33,31 @@
 extern "C" {
 #endif
 
-/* The limits: width and height of a map, markers in use, and the byte that says no distance. */
-#define BODKIN_SIDE 64
-#define BODKIN_MARKERS 4096
-#define BODKIN_NO_DISTANCE 255
+/* The limits: width and height of a map, markers in use, and the number that says no distance. */
+#define BODKIN_SIDE 256
+#define BODKIN_MARKERS 8192
+#define BODKIN_NO_DISTANCE 65535
 
 /*
- * What they come to: the bytes of the largest sheet, the crossings of the longest drive, and the
- * bytes of the longest file that is written, "P4", LF, two digits, space, two digits, LF and rows;
- * and of the longest picture, which has four bytes more, "255" and LF, and a byte a crossing.
+ * What they come to: the bytes or numbers of the largest sheet, the crossings of the longest drive,
+ * and the bytes of the longest file that is written, "P4", LF, three digits, space, three digits,
+ * LF and rows; and of the longest picture, which has six bytes more, "65535" and LF, and two bytes
+ * a crossing. A map may have more rocks than a list may have markers.
  */
 #define BODKIN_CROSSINGS (BODKIN_SIDE * BODKIN_SIDE)
 #define BODKIN_ROUTE (2 * BODKIN_SIDE - 1)
-#define BODKIN_FILE (9 + BODKIN_SIDE * ((BODKIN_SIDE + 7) / 8))
-#define BODKIN_PICTURE (13 + BODKIN_CROSSINGS)
+#define BODKIN_FILE (11 + BODKIN_SIDE * ((BODKIN_SIDE + 7) / 8))
+#define BODKIN_PICTURE (17 + 2 * BODKIN_CROSSINGS)
 
 /* The most bytes of stack that a call is held to below its caller. */
-#define BODKIN_STACK 7168
+#define BODKIN_STACK 70656
 
-/* The largest value of a picture of distances. */
-#define BODKIN_LARGEST 255
+/*
+ * The largest value of a picture of distances: that of one that is written, two bytes a crossing,
+ * and that of an old one, one byte a crossing, which is read too.
+ */
+#define BODKIN_LARGEST 65535
+#define BODKIN_OLD_LARGEST 255
 
 /* A label sheet's bytes. */
 #define BODKIN_OPEN 0
@@ -63,7 +68,8 @@ extern "C" {
 enum bodkin_refusal {
     BODKIN_DONE = 0,
     BODKIN_BAD_SIZE = 1,         /* width or height is 0 or over BODKIN_SIDE */
-    BODKIN_BAD_SHEET = 2,        /* a lent sheet is not width * height bytes */
+    BODKIN_BAD_SHEET = 2,        /* a lent sheet is not width * height bytes (of distances:
+                                    sixteen-bit numbers) */
     BODKIN_BAD_LIST = 3,         /* count over BODKIN_MARKERS or over the list lent, an id 0,
                                     ids not rising, or a marker off the map */
     BODKIN_BAD_PLACE = 4,        /* a place or new marker off the map, or a new id of 0 */
@@ -84,7 +90,8 @@ enum bodkin_refusal {
     BODKIN_LONG_RASTER = 15,     /* bytes after the raster (in P1: other than blanks) */
     BODKIN_SHARED_CROSSING = 16, /* two markers on one crossing, when writing */
     BODKIN_SHORT_OUTPUT = 17,    /* output too short for the whole file */
-    BODKIN_BAD_LARGEST = 18,     /* a picture's largest value is other than BODKIN_LARGEST */
+    BODKIN_BAD_LARGEST = 18,     /* a picture's largest value is neither BODKIN_LARGEST nor
+                                    BODKIN_OLD_LARGEST */
     BODKIN_NO_LINES = 19         /* drive by way of crossing lines asked, and there are none;
                                     given before 10 */
 };
@@ -124,7 +131,7 @@ struct bodkin_labelling {
 
 struct bodkin_four {
     uint8_t refusal;
-    uint8_t four[4]; /* east, south, west, north */
+    uint16_t four[4]; /* east, south, west, north */
 };
 
 struct bodkin_assurance {
@@ -234,19 +241,20 @@ struct bodkin_four bodkin_distances(const struct bodkin_marker *list, size_t len
                                     uint8_t *labels, size_t labels_len);
 
 /*
- * The clear distances of the whole map, one sheet a way. The label sheet holds the labels.
- * Answers 0.
+ * The clear distances of the whole map, one sheet a way, of one sixteen-bit number a crossing. The
+ * lengths of these four count numbers, not bytes. The label sheet holds the labels. Answers 0.
  * Refuses 1, 2 or 3; then no byte changes.
  */
 BODKIN_ANSWER
 uint8_t bodkin_measure(const struct bodkin_marker *list, size_t lent, size_t count, size_t width,
-                       size_t height, uint8_t *labels, size_t labels_len, uint8_t *east,
-                       size_t east_len, uint8_t *south, size_t south_len, uint8_t *west,
-                       size_t west_len, uint8_t *north, size_t north_len);
+                       size_t height, uint8_t *labels, size_t labels_len, uint16_t *east,
+                       size_t east_len, uint16_t *south, size_t south_len, uint16_t *west,
+                       size_t west_len, uint16_t *north, size_t north_len);
 
 /*
- * Whether home (hx, hy) is assured for the place (x, y): both are open and, on each axis, the offset is 0, or home's distance that way is
- * BODKIN_NO_DISTANCE, or the offset is at most that distance. The label sheet holds the labels.
+ * Whether home (hx, hy) is assured for the place (x, y): both are open and, on each axis, the
+ * offset is 0, or home's distance that way is BODKIN_NO_DISTANCE, or the offset is at most that
+ * distance. The label sheet holds the labels.
  * Refuses 1, 2, 3 or 4, and then no byte changes; or 8, and then the label sheet holds the labels.
  */
 BODKIN_ANSWER
@@ -337,7 +345,8 @@ struct bodkin_drove bodkin_lines_drive(const struct bodkin_marker *list, size_t 
 
 /*
  * Reads a PBM map, P1 or P4. Its rocks become markers with ids 1, 2, 3 and on, in raster order, in
- * the first slots; other slots stay. Hands back width, height and the new count.
+ * the first slots; other slots stay. Hands back width, height and the new count. A map with over
+ * BODKIN_MARKERS rocks is refused 7, however long the list.
  * Refuses 12, then 13 in the header, 1, then at the first fault met in the raster 13, 14 or 15,
  * then 7; no slot changes then.
  */
@@ -355,21 +364,25 @@ struct bodkin_wrote_map bodkin_write(const struct bodkin_marker *list, size_t le
                                      size_t width, size_t height, uint8_t *out, size_t out_len);
 
 /*
- * Writes a sheet of one byte a crossing as a raw PGM picture, P5, north row first, and hands back
- * the number of bytes written. Bytes past the end stay.
+ * Writes a sheet of one sixteen-bit number a crossing as a raw PGM picture, P5, with largest value
+ * BODKIN_LARGEST, two bytes a crossing, high byte first, north row first; and hands back the number
+ * of bytes written, at most BODKIN_PICTURE. `sheet_len` counts numbers. Bytes past the end stay.
  * Refuses 1, 2 or 17; then no byte changes.
  */
 BODKIN_ANSWER
-struct bodkin_sheet_written bodkin_write_sheet(const uint8_t *sheet, size_t sheet_len, size_t width,
-                                               size_t height, uint8_t *out, size_t out_len);
+struct bodkin_sheet_written bodkin_write_sheet(const uint16_t *sheet, size_t sheet_len,
+                                               size_t width, size_t height, uint8_t *out,
+                                               size_t out_len);
 
 /*
  * Reads a raw PGM picture, P5, into a sheet of its size, by crossing number, and hands back width
- * and height. A sheet that is read is only bytes: nothing is said of it against any list.
+ * and height. Its largest value is BODKIN_LARGEST, with two bytes a crossing, high byte first, or
+ * BODKIN_OLD_LARGEST, with one byte a crossing, whose 255 becomes BODKIN_NO_DISTANCE. `sheet_len`
+ * counts numbers. A sheet that is read is only numbers: nothing is said of it against any list.
  * Refuses 12, 13, 1, 18, 2, 14 or 15, in this order; then no byte changes.
  */
 BODKIN_ANSWER
-struct bodkin_sheet_read bodkin_read_sheet(const uint8_t *file, size_t file_len, uint8_t *sheet,
+struct bodkin_sheet_read bodkin_read_sheet(const uint8_t *file, size_t file_len, uint16_t *sheet,
                                            size_t sheet_len);
 
 /*
@@ -396,15 +409,16 @@ static inline struct bodkin_counted bodkin_clear_wide(struct bodkin_marker *list
 static inline const char *bodkin_refusal_text(uint8_t refusal) {
     switch (refusal) {
     case BODKIN_DONE: return "done";
-    case BODKIN_BAD_SIZE: return "width or height is 0 or over 64";
-    case BODKIN_BAD_SHEET: return "a lent sheet is not width times height bytes";
+    case BODKIN_BAD_SIZE: return "width or height is 0 or over 256";
+    case BODKIN_BAD_SHEET:
+        return "a lent sheet is not width times height bytes (of distances: numbers)";
     case BODKIN_BAD_LIST:
-        return "count over 4096 or over the list lent, an id 0, ids not rising, or a marker off "
+        return "count over 8192 or over the list lent, an id 0, ids not rising, or a marker off "
                "the map";
     case BODKIN_BAD_PLACE: return "a place or new marker is off the map, or a new id is 0";
     case BODKIN_ID_IN_USE: return "the id to enter is in use";
     case BODKIN_ID_NOT_IN_USE: return "the id to clear is not in use";
-    case BODKIN_NO_SLOT: return "no slot: the markers would pass the list lent or 4096";
+    case BODKIN_NO_SLOT: return "no slot: the markers would pass the list lent or 8192";
     case BODKIN_END_CLOSED: return "an end (home, place, s or d) is closed";
     case BODKIN_NO_DRIVE: return "both ends are open, but there is no shortest drive";
     case BODKIN_SHORT_ROUTE: return "the route buffer is shorter than distance + 1";
@@ -418,7 +432,7 @@ static inline const char *bodkin_refusal_text(uint8_t refusal) {
     case BODKIN_LONG_RASTER: return "there are bytes after the raster";
     case BODKIN_SHARED_CROSSING: return "two markers stand on one crossing";
     case BODKIN_SHORT_OUTPUT: return "the output is too short for the whole file";
-    case BODKIN_BAD_LARGEST: return "the picture's largest value is other than 255";
+    case BODKIN_BAD_LARGEST: return "the picture's largest value is neither 255 nor 65535";
     case BODKIN_NO_LINES: return "no column and row between the ends are open throughout";
     default: return "no refusal has this number";
     }

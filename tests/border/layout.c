@@ -76,6 +76,7 @@ int main(void) {
     printf("no distance %d\n", BODKIN_NO_DISTANCE);
     printf("crossings %d\nroute %d\nfile %d\n", BODKIN_CROSSINGS, BODKIN_ROUTE, BODKIN_FILE);
     printf("picture %d\nlargest %d\n", BODKIN_PICTURE, BODKIN_LARGEST);
+    printf("old largest %d\n", BODKIN_OLD_LARGEST);
     printf("stack %d\n", BODKIN_STACK);
     for (int number = BODKIN_BAD_SIZE; number <= BODKIN_NO_LINES; number++)
         printf("refused %d: %s\n", number, bodkin_refusal_text((uint8_t)number));

@@ -11,8 +11,9 @@
 enum { SLOTS = 8, ALL_SLOTS = BODKIN_MARKERS + 2, SIDE = 8, SHEET = SIDE * SIDE, ROUTE = 16, FILE_BYTES = 15, NOISE = 0xA5 };
 
 /*
- * A sheet has one byte more than the map, so that a sheet too long can be lent. Of the list SLOTS
- * are lent, and the rest is noise; all of it is lent to reach the limit on markers.
+ * A sheet has one byte more than the map, and one of distances twice as many numbers, so that a
+ * sheet too long can be lent. Of the list SLOTS are lent, and the rest is noise; all of it is lent
+ * to reach the limit on markers.
  */
 static struct lent {
     uint64_t guard_0;
@@ -22,7 +23,7 @@ static struct lent {
     uint64_t guard_2;
     uint8_t region[SHEET + 1];
     uint64_t guard_3;
-    uint8_t four[4][SHEET + 1];
+    uint16_t four[4][2 * SHEET];
     uint64_t guard_4;
     uint16_t route[ROUTE];
     uint64_t guard_5;
@@ -50,12 +51,15 @@ static void keep(void) { memcpy(&before, &now, sizeof now); }
 
 enum { NOTHING = 0, LABELS = 1, REGION = 2, FOUR = 4, PART = 8, STATE = 16 };
 
-/* Every byte but those named, which are sheets of the map or the first 10 crossings of the route, is as it was. */
+/*
+ * Every byte but those named, which are sheets of the map or the first 10 crossings of the route,
+ * is as it was.
+ */
 static bool only(unsigned changed) {
     if (changed & LABELS) memcpy(before.labels, now.labels, SHEET);
     if (changed & REGION) memcpy(before.region, now.region, SHEET);
     for (int way = 0; way < 4; way++)
-        if (changed & FOUR) memcpy(before.four[way], now.four[way], SHEET);
+        if (changed & FOUR) memcpy(before.four[way], now.four[way], SHEET * sizeof **now.four);
     if (changed & PART) memcpy(before.route, now.route, 10 * sizeof *now.route);
     if (changed & STATE) before.state = now.state;
     return memcmp(&now, &before, sizeof now) == 0;
@@ -79,7 +83,10 @@ static bool all_zero(const uint8_t *bytes) {
     return zero;
 }
 
-/* The ten calls over a list, each as a number from what is asked: its refusal. At a refusal the answer's other fields are zeros. */
+/*
+ * The ten calls over a list, each as a number from what is asked: its refusal. At a refusal the
+ * answer's other fields are zeros.
+ */
 
 static uint8_t zeros(uint8_t refusal, size_t others) {
     if (refusal != 0) expect(others == 0, "a refusal returns its number only");
@@ -164,17 +171,15 @@ static void sizes(const struct call *call) {
     for (size_t i = 0; i < 3; i++) {
         set();
         q.width = bad[i];
-        refused(call, BODKIN_BAD_SIZE, "width 0, 65 or the largest number");
+        refused(call, BODKIN_BAD_SIZE, "width 0, 257 or the largest number");
         set();
         q.height = bad[i];
-        refused(call, BODKIN_BAD_SIZE, "height 0, 65 or the largest number");
+        refused(call, BODKIN_BAD_SIZE, "height 0, 257 or the largest number");
     }
 }
 
 static void sheets(const struct call *call) {
     static const size_t bad[] = {0, SHEET - 1, SHEET + 1};
-    static const char *const ways[] = {"east sheet empty, short or long", "south sheet empty, short or long", "west sheet empty, short or long",
-                                       "north sheet empty, short or long"};
     if (!call->sheets) return;
     for (size_t i = 0; i < 3; i++) {
         set();
@@ -184,12 +189,23 @@ static void sheets(const struct call *call) {
         set();
         q.region = bad[i];
         if (call->ask == region || call->ask == drive) refused(call, BODKIN_BAD_SHEET, "region sheet empty, short or long");
-        for (size_t way = 0; call->ask == measure && way < 4; way++) {
+    }
+}
+
+/*
+ * A sheet of distances is counted in numbers: as many bytes as the map has crossings are half of
+ * it, and twice as many are no sheet either.
+ */
+static void distance_sheets(const struct call *call) {
+    static const size_t bad[] = {0, SHEET / 2, SHEET - 1, SHEET + 1, 2 * SHEET};
+    static const char *const ways[] = {"east sheet empty, halved, short, long or twice", "south sheet empty, halved, short, long or twice",
+                                       "west sheet empty, halved, short, long or twice", "north sheet empty, halved, short, long or twice"};
+    for (size_t i = 0; call->ask == measure && i < sizeof bad / sizeof *bad; i++)
+        for (size_t way = 0; way < 4; way++) {
             set();
             q.four[way] = bad[i];
             refused(call, BODKIN_BAD_SHEET, ways[way]);
         }
-    }
 }
 
 static void lists(const struct call *call) {
@@ -214,7 +230,10 @@ static void lists(const struct call *call) {
     refused(call, BODKIN_BAD_LIST, "a list of length 0");
 }
 
-/* All slots are lent and hold markers on R's crossings by turns, with rising ids that leave 9 free: whatever is refused is so by the limit alone. */
+/*
+ * All slots are lent and hold markers on R's crossings by turns, with rising ids that leave 9 free:
+ * whatever is refused is so by the limit alone.
+ */
 static void set_many(size_t count) {
     set();
     for (size_t i = 3; i < ALL_SLOTS; i++) now.list[i] = (struct bodkin_marker){(uint16_t)(i + 10), now.list[i % 3].x, now.list[i % 3].y};
@@ -225,13 +244,13 @@ static void set_many(size_t count) {
 static void limit(const struct call *call) {
     char what[96];
     set_many(BODKIN_MARKERS + 1);
-    refused(call, BODKIN_BAD_LIST, "4,097 markers in a longer list");
+    refused(call, BODKIN_BAD_LIST, "8,193 markers in a longer list");
     set_many(BODKIN_MARKERS);
     if (call->ask == enter) {
-        refused(call, BODKIN_NO_SLOT, "4,096 markers in a longer list");
+        refused(call, BODKIN_NO_SLOT, "8,192 markers in a longer list");
         return;
     }
-    snprintf(what, sizeof what, "%s: 4,096 markers are not too many", call->name);
+    snprintf(what, sizeof what, "%s: 8,192 markers are not too many", call->name);
     expect(call->ask() == (call->ask == write_map ? BODKIN_SHARED_CROSSING : BODKIN_DONE) && (!call->sheets || labelled()), what);
 }
 
@@ -314,7 +333,7 @@ static void list_calls(void) {
 static void last_slot(void) {
     set_many(BODKIN_MARKERS - 1);
     struct bodkin_counted entered = bodkin_enter(now.list, ALL_SLOTS, q.count, SIDE, SIDE, 9, 0, 0);
-    expect(entered.refusal == 0 && entered.count == BODKIN_MARKERS && now.list[3].id == 9, "the 4,096th marker is entered");
+    expect(entered.refusal == 0 && entered.count == BODKIN_MARKERS && now.list[3].id == 9, "the 8,192nd marker is entered");
 }
 
 static void askings(void) {
@@ -324,7 +343,8 @@ static void askings(void) {
     expect(labelling.refusal == 0 && labelling.rocks == 3 && labelling.shut == 3 && labelling.groups == 1 && labelled() && only(LABELS),
            "R: three rocks, three shut, one group");
     struct bodkin_four four = bodkin_distances(now.list, SLOTS, 3, SIDE, SIDE, 0, 2, now.labels, SHEET);
-    expect(four.four[0] == 3 && four.four[1] == 255 && four.four[2] == 255 && four.four[3] == 255 && only(LABELS), "R: (0,2) has 3, 255, 255, 255");
+    expect(four.four[0] == 3 && four.four[1] == 65535 && four.four[2] == 65535 && four.four[3] == 65535 && only(LABELS),
+           "R: (0,2) has 3, 65535, 65535, 65535");
     expect(measure() == 0 && only(LABELS | FOUR) && now.four[0][2 * SIDE] == 3 && now.four[3][4] == 2 && now.four[2][2 * SIDE + 4] == 0,
            "the same of the whole map");
     expect(bodkin_assured(now.list, SLOTS, 3, SIDE, SIDE, 0, 2, 2, 5, now.labels, SHEET).assured && only(LABELS), "assured for (2,5)");
@@ -363,6 +383,7 @@ int main(void) {
     for (size_t i = 0; i < CALLS; i++) {
         sizes(&calls[i]);
         sheets(&calls[i]);
+        distance_sheets(&calls[i]);
         lists(&calls[i]);
         limit(&calls[i]);
         places(&calls[i]);

@@ -1,4 +1,7 @@
-/* Document 01's example 12 and its "Errors that look reasonable", run through the library and compared. */
+/*
+ * Document 01's example 12 and its "Errors that look reasonable", run through the library and
+ * compared.
+ */
 #include "grainbodkin.h"
 #include "check.h"
 

@@ -1,11 +1,14 @@
-/* The map reader and writer from C. With no argument it reads a set of good and damaged files and compares the answers; `read` prints standard input's
- * map as rows of 0 and 1 from the north, or its refusal; `write` writes it again as P4. */
+/*
+ * The map reader and writer from C. With no argument it reads a set of good and damaged files and
+ * compares the answers; `read` prints standard input's map as rows of 0 and 1 from the north, or
+ * its refusal; `write` writes it again as P4.
+ */
 #include "grainbodkin.h"
 #include "check.h"
 
 #include <string.h>
 
-enum { CROSSINGS = BODKIN_SIDE * BODKIN_SIDE, MOST_BYTES = 65536 };
+enum { CROSSINGS = BODKIN_SIDE * BODKIN_SIDE, MOST_BYTES = 262144 };
 
 static struct bodkin_marker list[BODKIN_MARKERS];
 static struct bodkin_read_map map;
@@ -56,7 +59,7 @@ static const struct row rows[] = {
     {"a foreign byte and no digit at all", FILE_OF("P1 2 1 x"), 9, 13, 0},
     {"a comment in a P1 raster", FILE_OF("P1 2 1 0#c\n1"), 9, 13, 0},
     {"width 0", FILE_OF("P1 0 1 "), 9, 1, 0},
-    {"65 columns", FILE_OF("P4 65 1 "), 9, 1, 0},
+    {"257 columns", FILE_OF("P4 257 1 "), 9, 1, 0},
     {"999,999,999 rows", FILE_OF("P4 1 999999999 "), 9, 1, 0},
     {"a P4 raster short by a byte", FILE_OF("P4 9 1 \x80"), 9, 14, 0},
     {"a P1 raster short by a digit", FILE_OF("P1 2 1 0"), 9, 14, 0},

@@ -1,7 +1,7 @@
 /*
  * What the header adds to the calls: names for the longest sheet, route, file and picture, each as
- * long as it has to be; refusals in words; and entering and clearing with ids of any width. It is built as
- * C and as C++.
+ * long as it has to be; refusals in words; and entering and clearing with ids of any width. It is
+ * built as C and as C++.
  */
 #include "grainbodkin.h"
 #include "check.h"
@@ -13,7 +13,7 @@ enum { SLOTS = 4 };
 static struct bodkin_marker list[SLOTS];
 static uint8_t labels[BODKIN_CROSSINGS], region[BODKIN_CROSSINGS];
 static uint8_t out[BODKIN_PICTURE];
-static uint16_t route[BODKIN_ROUTE];
+static uint16_t route[BODKIN_ROUTE], sheet[BODKIN_CROSSINGS];
 
 /* The drive across the largest map, into a route of so many slots. */
 static struct bodkin_drove longest(size_t slots) {
@@ -28,7 +28,7 @@ static struct bodkin_wrote_map largest(size_t bytes) {
 }
 
 static struct bodkin_sheet_written drawn(size_t bytes) {
-    return bodkin_write_sheet(labels, BODKIN_CROSSINGS, BODKIN_SIDE, BODKIN_SIDE, out, bytes);
+    return bodkin_write_sheet(sheet, BODKIN_CROSSINGS, BODKIN_SIDE, BODKIN_SIDE, out, bytes);
 }
 
 static void longest_of_each(void) {

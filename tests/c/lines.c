@@ -78,7 +78,10 @@ static void each_row(void) {
     }
 }
 
-/* The drive of each row: refused 19 where the test says no, accepted by the check where it says yes, through the meeting crossing once. */
+/*
+ * The drive of each row: refused 19 where the test says no, accepted by the check where it says
+ * yes, through the meeting crossing once.
+ */
 static void each_drive(void) {
     for (size_t i = 0; i < sizeof rows / sizeof *rows; i++) {
         const struct row *row = &rows[i];

@@ -11,7 +11,10 @@
 
 enum { TIMES = 500000, STACK = 256 * 1024, LONGEST_ITEM = 5, SLOTS = 4 };
 
-/* The item stands between the two texts as often as TIMES says. Where the file is a map, it is 2 by 1 with one rock. */
+/*
+ * The item stands between the two texts as often as TIMES says. Where the file is a map, it is 2 by
+ * 1 with one rock.
+ */
 static const struct row {
     const char *what;
     const char *before;

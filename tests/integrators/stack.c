@@ -5,12 +5,18 @@
  *
  * Each call runs on a stack of its own, painted beforehand: the lowest byte that changed tells its
  * depth. What an empty call takes there is the caller's own and is taken off.
+ *
+ * Each call is the first of a process, and then made again: where the loader binds memset and
+ * memcpy at their first use, it does so on the call's stack. So this program must not use the two
+ * before; it paints and fills byte by byte, by volatile pointers, lest the compiler put them in.
  */
 #define _GNU_SOURCE
 #include <stdio.h>
 #include <stdlib.h>
 #include <string.h>
+#include <sys/wait.h>
 #include <ucontext.h>
+#include <unistd.h>
 #include "grainbodkin.h"
 
 enum { ROOM = 8 << 20, PAINT = 0xA5, SIDE = BODKIN_SIDE, CROSSINGS = SIDE * SIDE, FILE_ROOM = 1 << 20 };
@@ -19,7 +25,8 @@ static unsigned char stack[ROOM];
 static ucontext_t here, there;
 static struct bodkin_marker list[BODKIN_MARKERS + 1], freed[BODKIN_MARKERS];
 static size_t count;
-static uint8_t labels[CROSSINGS], region[CROSSINGS], ways[4][CROSSINGS], out[BODKIN_PICTURE];
+static uint8_t labels[CROSSINGS], region[CROSSINGS], out[BODKIN_PICTURE];
+static uint16_t ways[4][CROSSINGS];
 static uint8_t file[FILE_ROOM];
 static size_t file_len;
 static uint16_t route[2 * SIDE], drawn[2 * SIDE];
@@ -52,12 +59,12 @@ static void lines(void) { refusal = bodkin_lines(LIST, ENDS, LABELS).refusal; }
 static void lines_drive(void) { refusal = bodkin_lines_drive(LIST, ENDS, LABELS, region, CROSSINGS, route, 2 * SIDE, &state).refusal; }
 static void read_map(void) { refusal = bodkin_read(file, file_len, freed, BODKIN_MARKERS).refusal; }
 static void write_map(void) { refusal = bodkin_write(LIST, out, sizeof out).refusal; }
-static void write_sheet(void) { refusal = bodkin_write_sheet(LABELS, SIDE, SIDE, out, sizeof out).refusal; }
-static void read_sheet(void) { refusal = bodkin_read_sheet(file, file_len, LABELS).refusal; }
+static void write_sheet(void) { refusal = bodkin_write_sheet(ways[0], CROSSINGS, SIDE, SIDE, out, sizeof out).refusal; }
+static void read_sheet(void) { refusal = bodkin_read_sheet(file, file_len, ways[0], CROSSINGS).refusal; }
 
 /* The bytes between the stack's top and the lowest one that the call changed. */
 static size_t depth(void (*call)(void)) {
-    memset(stack, PAINT, ROOM);
+    for (volatile unsigned char *p = stack; p < stack + ROOM; p++) *p = PAINT;
     getcontext(&there);
     there.uc_stack.ss_sp = stack;
     there.uc_stack.ss_size = ROOM;
@@ -74,17 +81,23 @@ static size_t used(void (*call)(void)) {
     return all > own ? all - own : 0;
 }
 
-/* A rock on every second crossing of the map's middle, so that labelling has all of it to shut, and both ends stay open. */
+/*
+ * Rocks on every eighth diagonal of the map's middle, so that labelling has all of it to shut, and
+ * both ends stay open.
+ */
 static void rocks(void) {
     count = 0;
     for (size_t y = 2; y < SIDE - 2; y++)
-        for (size_t x = 2 + y % 2; x < SIDE - 2; x += 2) {
-            list[count] = (struct bodkin_marker){.id = count + 1, .x = x, .y = y};
-            count++;
-        }
+        for (size_t x = 2; x < SIDE - 2; x++)
+            if ((x + y) % 8 == 0) {
+                list[count] = (struct bodkin_marker){.id = count + 1, .x = x, .y = y};
+                count++;
+            }
 }
 
-/* A drawn list that is looked at to its end: east along the south edge, north along the east edge. */
+/*
+ * A drawn list that is looked at to its end: east along the south edge, north along the east edge.
+ */
 static void draw(void) {
     drawn_len = 0;
     for (size_t x = 0; x < SIDE; x++) drawn[drawn_len++] = (uint16_t)x;
@@ -93,8 +106,8 @@ static void draw(void) {
 
 /* Puts so many bytes at the end of the file. */
 static void append(const void *bytes, size_t n) {
-    memcpy(file + file_len, bytes, n);
-    file_len += n;
+    const unsigned char *from = bytes;
+    for (volatile uint8_t *to = file + file_len; n > 0; n--, file_len++) *to++ = *from++;
 }
 
 /* A P1 map 1 by 1 whose header has so many comments, the shortest there are. */
@@ -105,24 +118,24 @@ static void comments(size_t n) {
     append("1 1 1", 5);
 }
 
-/* A P1 or P4 map 64 by 64: every second crossing a rock, or every one. */
+/* A P1 or P4 map 256 by 256: of each eight crossings one a rock, or all. */
 static void whole(char letter, int every) {
     file_len = 0;
-    append(letter == '1' ? "P1 64 64 " : "P4 64 64 ", 9);
+    append(letter == '1' ? "P1 256 256 " : "P4 256 256 ", 11);
     for (size_t y = 0; y < SIDE; y++)
         for (size_t x = 0; x < SIDE; x += letter == '1' ? 1 : 8) {
-            uint8_t digit = every || (x + y) % 2 ? '1' : '0', bits = every ? 0xFF : y % 2 ? 0xAA : 0x55;
+            uint8_t digit = every || (x + y) % 8 == 7 ? '1' : '0', bits = every ? 0xFF : (uint8_t)(1 << y % 8);
             append(letter == '1' ? &digit : &bits, 1);
         }
 }
 
-/* A P5 picture 64 by 64 whose header has so many comments. */
-static void picture(size_t n) {
+/* A P5 picture 256 by 256 of either kind, whose header has so many comments. */
+static void picture(size_t n, int old) {
     file_len = 0;
     append("P5 ", 3);
     for (size_t i = 0; i < n; i++) append("#\n", 2);
-    append("64 64 255 ", 10);
-    append(ways, CROSSINGS);
+    append(old ? "256 256 255 " : "256 256 65535 ", old ? 12 : 14);
+    append(ways, old ? CROSSINGS : 2 * CROSSINGS);
 }
 
 static void read_table(void) {
@@ -136,15 +149,37 @@ static size_t held_to(const char *call) {
     return 0;
 }
 
-static int failed;
+static int failed, loaded;
 
-static void compare(const char *name, void (*call)(void), const char *with) {
+/* What a child process ends with. */
+enum { GOOD, BAD, GOOD_AND_LOADED };
+
+/*
+ * The call ends with this number, and takes no more stack than the page says, the first time too.
+ */
+static int compare_here(int number, const char *name, void (*call)(void), const char *with) {
+    size_t most = held_to(name);
     rocks();
-    size_t bytes = used(call), most = held_to(name);
-    int good = refusal == 0 && bytes <= most;
-    printf("%s: %-12s%-22s %8zu bytes of stack, at most %zu\n", good ? "ok" : "FAILED", name, with, bytes, most);
-    failed += !good;
+    size_t first = used(call);
+    int good = refusal == number && first <= most;
+    rocks();
+    size_t again = used(call);
+    good = good && refusal == number && again <= most;
+    printf("%s: %-12s%-22s %8zu bytes of stack, %zu the first time, at most %zu\n", good ? "ok" : "FAILED", name, with, again, first, most);
+    fflush(stdout);
+    return !good ? BAD : first > again ? GOOD_AND_LOADED : GOOD;
 }
+
+static void compare_at(int number, const char *name, void (*call)(void), const char *with) {
+    int status = BAD;
+    fflush(stdout);
+    pid_t child = fork();
+    if (child == 0) _exit(compare_here(number, name, call, with));
+    if (child < 0 || waitpid(child, &status, 0) < 0 || !WIFEXITED(status) || WEXITSTATUS(status) == BAD) failed++;
+    else loaded += WEXITSTATUS(status) == GOOD_AND_LOADED;
+}
+
+static void compare(const char *name, void (*call)(void), const char *with) { compare_at(BODKIN_DONE, name, call, with); }
 
 static void compare_reading(void) {
     for (size_t n = 0; n <= 32000; n = n ? n * 20 : 4) {
@@ -153,11 +188,11 @@ static void compare_reading(void) {
         comments(n);
         compare("read", read_map, with);
     }
-    for (int every = 0; every < 2; every++) {
-        whole('1', every);
-        compare("read", read_map, every ? "P1, 4,096 rocks" : "P1, 2,048 rocks");
-        whole('4', every);
-        compare("read", read_map, every ? "P4, 4,096 rocks" : "P4, 2,048 rocks");
+    for (char letter = '1'; letter <= '4'; letter += 3) {
+        whole(letter, 0);
+        compare("read", read_map, letter == '1' ? "P1, 8,192 rocks" : "P4, 8,192 rocks");
+        whole(letter, 1);
+        compare_at(BODKIN_NO_SLOT, "read", read_map, letter == '1' ? "P1, 65,536 rocks" : "P4, 65,536 rocks");
     }
 }
 
@@ -179,9 +214,12 @@ int main(void) {
     compare("write", write_map, "");
     compare_reading();
     compare("write_sheet", write_sheet, "");
-    picture(0);
+    picture(0, 0);
     compare("read_sheet", read_sheet, "no comments");
-    picture(32000);
+    picture(0, 1);
+    compare("read_sheet", read_sheet, "an old picture");
+    picture(32000, 0);
     compare("read_sheet", read_sheet, "32000 comments");
-    return failed != 0;
+    if (!loaded) printf("FAILED: no call was seen to take more the first time\n");
+    return failed != 0 || !loaded;
 }

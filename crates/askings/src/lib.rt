@@ -74,10 +74,10 @@ pub fn measure(
     w: usize,
     h: usize,
     labels: &mut [u8],
-    east: &mut [u8],
-    south: &mut [u8],
-    west: &mut [u8],
-    north: &mut [u8],
+    east: &mut [u16],
+    south: &mut [u16],
+    west: &mut [u16],
+    north: &mut [u16],
 ) -> u8
     requires { ⌜ MayMeasure n w h (now labels) (now east) (now south) (now west) (now north) ⌝ }
     ensures { λ r. ⌜ MeasureRest n w h (now (labels .entry)) (now (east .entry)) (now (south .entry)) (now (west .entry)) (now (north .entry)) (now (labels .exit)) (now (east .exit)) (now (south .exit)) (now (west .exit)) (now (north .exit)) r ⌝ }

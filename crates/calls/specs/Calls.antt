@@ -68,7 +68,7 @@ pub record DistancesCall (m : LentMap) (x y : ℕ) (labels labels′ : List ℕ)
   pub refused : ¬ (r .refusal ≡ 0) → r ≡ no-four (r .refusal)
   pub done : r .refusal ≡ 0 → Distances (ClosedBy m) x y (r .four)
 
--- distances of the map: "as four lent sheets of one byte a crossing"
+-- distances of the map: "as four lent sheets of one byte a crossing", with Req 07 of sixteen bits
 pub record MeasureCall (m : LentMap) (labels east south west north labels′ east′ south′ west′ north′ : List ℕ) (r : ℕ) : Type 0 where
   pub given : Gives (Rules.measure-table m labels east south west north) r
   pub labels-after : LabelsAfter (RocksOf m) (m .width) (m .height) r labels labels′

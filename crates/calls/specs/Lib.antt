@@ -33,3 +33,4 @@ pub mod RoundLaws
 pub mod RoundTrip
 pub mod PictureCalls
 pub mod PictureTrips
+pub mod OldPictures

@@ -1,6 +1,6 @@
--- The promises of the two picture calls: what the answer and every lent byte hold, on success and
--- at each refusal. "A reader's sheet is only bytes; nothing is claimed of it against any marker
--- list": no promise here mentions one.
+-- The promises of the two picture calls: what the answer and every lent byte and number hold, on
+-- success and at each refusal. A sheet is a list of sixteen-bit numbers. "nothing is claimed of it
+-- against any marker list": no promise here mentions one.
 use mathlib.Core.Path.{_≡_}
 use mathlib.Core.List.{List, [], _∷_, _++_}
 use Prim.Native.Nat.{ℕ, _*_, _<_}
@@ -29,7 +29,8 @@ pub record TooShortForPicture (w h : ℕ) (sheet out : List ℕ) : Type 0 where
 abbrev pub picture-rule : List ℕ → ℕ → ℕ → List ℕ → Rule
 picture-rule sheet w h out = rule short-output (TooShortForPicture w h sheet out)
 
--- The rows that writing a sheet can meet: 1, 2 and 17.
+-- The rows that writing a sheet can meet: 1, 2 and 17. "2 counts sixteen-bit numbers in a distance
+-- sheet"
 abbrev pub write-sheet-table : List ℕ → ℕ → ℕ → List ℕ → List Rule
 write-sheet-table sheet w h out =
     rule bad-size (¬ Sides w h) ∷ rule bad-sheet (Misfit w h (sheet ∷ [])) ∷ picture-rule sheet w h out ∷ []
@@ -41,7 +42,8 @@ pub record PicturePut (w h : ℕ) (sheet out out′ : List ℕ) (r : SheetWritte
   pub counted : r .bytes ≡ length file
   pub is : out′ ≡ file ++ drop (length file) out
 
--- write a sheet: "Write each of the four distance sheets as a raw PGM file"
+-- write a sheet: "PGM sheets are written with largest value 65535, two bytes a crossing, high byte
+-- first"
 pub record WriteSheetCall (sheet : List ℕ) (w h : ℕ) (out out′ : List ℕ) (r : SheetWritten) : Type 0 where
   pub given : Gives (write-sheet-table sheet w h out) (r .refusal)
   pub kept : ¬ (r .refusal ≡ 0) → out′ ≡ out
@@ -54,8 +56,8 @@ pub record PictureRead (file sheet sheet′ : List ℕ) (r : SheetRead) : Type 0
   pub picture : PictureFile file (r .width) (r .height) sheet′
   pub size : length sheet ≡ r .height * r .width
 
--- read a sheet: "Read such files back too". A refusal is the file's fault for a sheet of that
--- length, which orders 12, 13, 1, 18, 2, 14 and 15.
+-- read a sheet: "Read such files back too", and "Old one-byte sheets are still read". A refusal is
+-- the file's fault for a sheet of that length, which orders 12, 13, 1, 18, 2, 14 and 15.
 pub record ReadSheetCall (file sheet sheet′ : List ℕ) (r : SheetRead) : Type 0 where
   pub given : ¬ (r .refusal ≡ 0) → PictureFault file (length sheet) (r .refusal)
   pub kept : ¬ (r .refusal ≡ 0) → sheet′ ≡ sheet

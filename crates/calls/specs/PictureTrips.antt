@@ -1,5 +1,6 @@
 -- What is proved of the two picture calls: one outcome each, the exact occasions of their refusals,
--- and that what is written reads back as the same sheet, of every sheet of bytes.
+-- that what is written reads back as the same sheet, of every sheet of sixteen-bit numbers, and
+-- that an old picture reads as its sheet with the new mark.
 use mathlib.Core.Path.{_≡_, refl, sym, ap, subst, _∙_}
 use mathlib.Core.List.{List, [], _∷_, _++_}
 use mathlib.Core.Logic.{_↔_, _⊎_, inl, inr}
@@ -11,10 +12,10 @@ use lib.Seq.{take-at}
 use Rattle.field.specs.Map.{Sides}
 use Rattle.field.specs.Distances.{Way, DistanceSheet}
 use Rattle.picturefile.specs.Picture.{PictureFile, PictureFault}
-use Rattle.picturefile.specs.Written.{PictureWritten}
+use Rattle.picturefile.specs.Written.{PictureWritten, OldWritten, SheetRenewed}
 use Rattle.picturefile.specs.PictureLaws.{picture-one, picture-fault-one, fault-no-picture, fault-some}
 use Rattle.picturefile.specs.WrittenLaws
-use Rattle.picturefile.specs.WrittenLaws.{written-one, written-picture}
+use Rattle.picturefile.specs.WrittenLaws.{written-one, written-picture, old-picture-reads}
 use Rattle.calls.specs.Rules.{gives-one}
 use Rattle.calls.specs.RuleLaws.{Exactly, exactly, gives-none, sides-hold}
 use Rattle.calls.specs.OutcomeLaws.{refused-one}
@@ -104,16 +105,26 @@ pub record SameSheet (w h : ℕ) (sheet sheet′ : List ℕ) (r : SheetRead) : T
   pub height : r .height ≡ h
   pub same : sheet′ ≡ sheet
 
+-- A picture reads as its own sheet.
+read-picture : {file sheet lent lent′ : List ℕ} {w h : ℕ} {r : SheetRead} → PictureFile file w h sheet → ReadSheetCall file lent lent′ r
+    → length lent ≡ h * w → SameSheet w h sheet lent′ r
+read-picture {file} {sheet} {lent} {lent′} {w} {h} {r} picture d size = go (ℕ-discrete (r .refusal) 0)
+  where
+    go : Dec (r .refusal ≡ 0) → SameSheet w h sheet lent′ r
+    go (yes y) = let e = picture-one (d .done y .picture) picture in record { taken = y; width = e .0; height = e .1; same = e .2 }
+    go (no y) = absurd (fault-no-picture (d .given y) size picture)
+
 pub read-write-sheet : {sheet out out′ lent lent′ : List ℕ} {w h : ℕ} {wrote : SheetWritten} {r : SheetRead} → WriteSheetCall sheet w h out out′ wrote
     → wrote .refusal ≡ 0 → ReadSheetCall (take (wrote .bytes) out′) lent lent′ r → length lent ≡ h * w → SameSheet w h sheet lent′ r
-read-write-sheet {sheet} {out} {out′} {lent} {lent′} {w} {h} {wrote} {r} c z d size = go (ℕ-discrete (r .refusal) 0)
+read-write-sheet {sheet} {out} {out′} {lent} {lent′} {w} {h} {wrote} {r} c z d size = read-picture picture d size
   where
     picture : PictureFile (take (wrote .bytes) out′) w h sheet
     picture = subst (λ (l : List ℕ). PictureFile l w h sheet) (sym (write-front c z)) (written-picture (write-sides c z) (c .done z .written))
 
-    go : Dec (r .refusal ≡ 0) → SameSheet w h sheet lent′ r
-    go (yes y) = let e = picture-one (d .done y .picture) picture in record { taken = y; width = e .0; height = e .1; same = e .2 }
-    go (no y) = absurd (fault-no-picture (d .given y) size picture)
+-- "Old one-byte sheets are still read, their 255 becoming 65,535."
+pub read-old-sheet : {file old sheet lent lent′ : List ℕ} {w h : ℕ} {r : SheetRead} → Sides w h → OldWritten w h old file → SheetRenewed old sheet
+    → ReadSheetCall file lent lent′ r → length lent ≡ h * w → SameSheet w h sheet lent′ r
+read-old-sheet sides p n d size = read-picture (old-picture-reads sides p n) d size
 
 -- What is read and written again is our writer's form of the same picture: it reads as the same
 -- sheet.

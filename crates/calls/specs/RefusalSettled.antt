@@ -7,7 +7,8 @@ use Prim.Native.Nat.{ℕ, zero, suc, _<_, _≤_, _+_, _*_, zero-le}
 use native.Mathlib.Omega.{arith}
 use lib.ListN.{length, length-replicate}
 use Rattle.field.specs.declared.Marker.{Marker}
-use Rattle.field.specs.Map.{Sides, On, side, most-markers, gap}
+use Rattle.field.specs.Map.{Sides, On, most-markers, gap}
+use Rattle.field.specs.Limits.{side-number, side-is}
 use Rattle.field.specs.Labels.{blank, rock, Open}
 use Rattle.field.specs.Distances.{Assured}
 use Rattle.field.specs.Drives.{ShortestDrive}
@@ -85,17 +86,16 @@ given (region m sx sy dx dy labels t n) g = (g, λ labels′ region′ r p. give
 given (drive m sx sy dx dy labels t route n) g = (g, λ state labels′ region′ route′ state′ r p. gives-one (Rules.drive-table m sx sy dx dy labels t route) _ _ (p .given) g)
 given (write m out n) g = (g, λ out′ r p. gives-one (Rules.write-table m out) _ _ (p .given) g)
 
--- The sizes. 8 by 8 is within the limits, and so is 64 by 1; 0 and 65 are not.
-sides : {w h : ℕ} → 1 ≤ w → 1 ≤ h → w ≤ 64 → h ≤ 64 → Sides w h
-unfolding side
-sides a b c d = record { some-w = a; some-h = b; most-w = c; most-h = d }
+-- The sizes. 8 by 8 is within the limits, and so is the largest side by 1; 0 and one more than the
+-- largest side are not.
+sides : {w h : ℕ} → 1 ≤ w → 1 ≤ h → w ≤ side-number → h ≤ side-number → Sides w h
+sides a b c d = record { some-w = a; some-h = b; most-w = omega (arith, side-is); most-h = omega (arith, side-is) }
 
 good-size : ¬ ¬ Sides wide high
 good-size n = n (sides (omega arith) (omega arith) (omega arith) (omega arith))
 
-wider : {h : ℕ} → ¬ Sides 65 h
-unfolding side
-wider s = omega (arith, s .most-w)
+wider : {h : ℕ} → ¬ Sides (side-number + 1) h
+wider s = omega (arith, s .most-w, side-is)
 
 -- A sheet of 64 bytes is of the map's size.
 fits : length (zeros 64) ≡ high * wide
@@ -109,8 +109,8 @@ two-fit : ¬ Misfit wide high (zeros 64 ∷ zeros 64 ∷ [])
 two-fit (inl n) = n fits
 two-fit (inr f) = one-fits f
 
-long-fits : ¬ Misfit 64 1 (zeros 64 ∷ [])
-long-fits (inl n) = n fits
+long-fits : ¬ Misfit side-number 1 (zeros side-number ∷ [])
+long-fits (inl n) = n (length-replicate {A = ℕ} side-number 0)
 long-fits (inr z) = z
 
 -- The lists: these are well formed, and with one more in use than lent none is.
@@ -133,7 +133,7 @@ two-formed : Formed two-on-one
 unfolding most-markers every ListRows.goodAt ListRows.risesAt ListRows.formedOf ListRows.passes
 two-formed = ListRows.passes-holds (Lists.formed (markersOn (place 7 0 ∷ place 7 0 ∷ [])) 2) refl
 
-empty-formed : Formed (lentMap [] 0 64 1)
+empty-formed : Formed (lentMap [] 0 side-number 1)
 empty-formed =
     record { few = zero-le; lent = omega arith; some-id = λ k l. absurd (omega arith); on = λ k l. absurd (omega arith); rising = λ k l. absurd (omega arith) }
 

@@ -3,9 +3,10 @@
 -- that applies is given". That every row holds is proved in RefusalSettled.
 use mathlib.Core.Path.{_≡_}
 use mathlib.Core.List.{List, [], _∷_, _++_}
-use Prim.Native.Nat.{ℕ}
+use Prim.Native.Nat.{ℕ, _+_}
 use lib.ListN.{replicate}
 use Rattle.field.specs.declared.Marker.{Marker}
+use Rattle.field.specs.Limits.{side-number}
 use Rattle.field.specs.Labels.{blank}
 use Rattle.field.specs.Table.{place, R, wide, high, markersOn}
 use Rattle.calls.specs.Rules
@@ -80,13 +81,13 @@ zeros n = replicate n 0
 -- The table. Above each row stands what it shows.
 unfoldable pub table : List Row
 table =
-    -- 1 before 2 and 3: a map of width 0 or 65, with a sheet that is not of its size, and with
-    -- markers off the map or more in use than lent.
+    -- 1 before 2 and 3: a map of width 0 or over the limit, with a sheet that is not of its size,
+    -- and with markers off the map or more in use than lent.
     enter (lentMap (markersOn R) 3 0 8) 9 0 0 1
     ∷ clear (lentMap (markersOn R) 4 8 0) 1 1
-    ∷ label (lentMap (markersOn R) 4 65 8) (zeros 64) 1
-    -- 64 is not over 64.
-    ∷ label (lentMap [] 0 64 1) (zeros 64) 0
+    ∷ label (lentMap (markersOn R) 4 (side-number + 1) 8) (zeros 64) 1
+    -- The limit itself is not over the limit.
+    ∷ label (lentMap [] 0 side-number 1) (zeros side-number) 0
     -- 2 before 3, and 3 where the sheet is of the map's size.
     ∷ label over (zeros 63) 2
     ∷ label over (zeros 64) 3

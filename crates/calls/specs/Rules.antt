@@ -17,11 +17,12 @@ use Rattle.mapfile.specs.Written.{Written}
 pub use Rattle.calls.specs.Rule.{Rule, rule, Gives, gives-one}
 pub use Rattle.calls.specs.LentMap.{LentMap, lentMap, Sized, OnIt, Formed, markersIn, RocksOf, ClosedBy}
 
--- 1: "width or height is 0 or over 64"
+-- 1: "width or height is 0 or over 64"; "1, 3 and 7 read the new limits" (Req 07): 256 and 8,192
 abbrev pub size-rule : LentMap → Rule
 size-rule m = rule bad-size (¬ Sized m)
 
--- 2: "a lent sheet is not width × height bytes"
+-- 2: "a lent sheet is not width × height bytes"; "2 counts sixteen-bit numbers in a distance
+-- sheet" (Req 07)
 abbrev pub Misfit : ℕ → ℕ → List (List ℕ) → Type 0
 Misfit w h [] = ⊥
 Misfit w h (s ∷ ss) = (¬ (length s ≡ h * w)) ⊎ Misfit w h ss
@@ -29,7 +30,8 @@ Misfit w h (s ∷ ss) = (¬ (length s ≡ h * w)) ⊎ Misfit w h ss
 abbrev pub sheet-rule : LentMap → List (List ℕ) → Rule
 sheet-rule m sheets = rule bad-sheet (Misfit (m .width) (m .height) sheets)
 
--- 3: "count over 4,096 or over the list lent, an id 0, ids not rising, or a marker off the map"
+-- 3: "count over 4,096 or over the list lent, an id 0, ids not rising, or a marker off the map";
+-- with Req 07 over 8,192
 abbrev pub list-rule : LentMap → Rule
 list-rule m = rule bad-list (¬ Formed m)
 
@@ -51,7 +53,7 @@ in-use-rule m id = rule id-in-use (InUse (m .list) (m .count) id)
 abbrev pub not-in-use-rule : LentMap → ℕ → Rule
 not-in-use-rule m id = rule id-not-in-use (¬ InUse (m .list) (m .count) id)
 
--- 7: "no slot: count ... would pass the list lent or 4,096"
+-- 7: "no slot: count ... would pass the list lent or 4,096", with Req 07 8,192
 abbrev pub slot-rule : LentMap → Rule
 slot-rule m = rule no-slot ((length (m .list) < m .count + 1) ⊎ (most-markers < m .count + 1))
 

@@ -22,7 +22,7 @@ pub struct Labelling {
 #[repr(C)]
 pub struct Four {
     pub refusal: u8,
-    pub four: [u8; 4],
+    pub four: [u16; 4],
 }
 
 // Whether home is assured, or the refusal.

@@ -16,10 +16,10 @@ ghost use Rattle.distances.specs.Promise.{AskedHome};
 ghost use Rattle.sheets.specs.Promise.{Asked};
 
 // What stands for a distance where there is none.
-pub const NONE: u8 = NO_DISTANCE;
+pub const NONE: u16 = NO_DISTANCE;
 
 // The four distances of (x, y), east, south, west, north.
-pub fn distances(s: &[u8], w: usize, h: usize, x: usize, y: usize) -> [u8; 4]
+pub fn distances(s: &[u8], w: usize, h: usize, x: usize, y: usize) -> [u16; 4]
     requires { ⌜ Asked w h (now s) x y ⌝ }
     ensures { λ r. ⌜ Distances (Marked (now (s .entry)) w h) x y r ⌝ }
 {
@@ -33,7 +33,7 @@ pub fn distances(s: &[u8], w: usize, h: usize, x: usize, y: usize) -> [u8; 4]
 
 // Whether home's distance that way leaves room for the offset: it is none, or the offset is at most
 // that. No other function compares the two.
-fn enough(offset: usize, n: u8) -> bool
+fn enough(offset: usize, n: u16) -> bool
     ensures { λ r. ⌜ r ≡ enoughOf offset n ⌝ }
 {
     if n == NONE {
@@ -44,7 +44,7 @@ fn enough(offset: usize, n: u8) -> bool
 
 // Whether one axis lets home at m be assured for the place at p, with home's distances upwards and
 // downwards on it.
-pub fn axis(up: u8, down: u8, m: usize, p: usize) -> bool
+pub fn axis(up: u16, down: u16, m: usize, p: usize) -> bool
     ensures { λ r. ⌜ r ≡ axisOf up down m p ⌝ }
 {
     if m < p {

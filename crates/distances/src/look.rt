@@ -48,7 +48,7 @@ fn after(w: usize, h: usize, x: usize, y: usize, way: Way, k: usize) -> Place
 }
 
 // One look for all four ways: from the crossing itself to the edge, until a mark is met.
-pub(crate) fn look(s: &[u8], w: usize, h: usize, x: usize, y: usize, way: Way) -> u8
+pub(crate) fn look(s: &[u8], w: usize, h: usize, x: usize, y: usize, way: Way) -> u16
     requires { ⌜ Asked w h (now s) x y ⌝ }
     ensures { λ r. ⌜ Clear (Marked (now (s .entry)) w h) (towards way) x y r ⌝ }
 {
@@ -57,7 +57,7 @@ pub(crate) fn look(s: &[u8], w: usize, h: usize, x: usize, y: usize, way: Way) -
     while k <= n {
         let p = after(w, h, x, y, way, k);
         if mark(s, w, h, p.x, p.y) != 0 {
-            return k as u8;
+            return k as u16;
         }
         k += 1;
     }

@@ -4,23 +4,30 @@ use mathlib.Core.Path.{_≡_, refl}
 use Prim.Native.Nat.{ℕ, _*_, _≤_}
 use native.Mathlib.Omega.{arith}
 use native.Mathlib.Nat.{mul-le-mul}
-use Rattle.field.specs.Map.{side, most-markers, no-distance, largest-value, Sides}
+use Rattle.field.specs.Map.{side, most-markers, no-distance, largest-value, old-largest, old-mark, Sides}
 
--- The constants' numbers: SIDE, MOST_CROSSINGS, MOST_MARKERS, NO_DISTANCE, LARGEST.
+-- The constants' numbers: SIDE, MOST_CROSSINGS, MOST_MARKERS, NO_DISTANCE, LARGEST,
+-- OLD_LARGEST, OLD_MARK.
 abbrev pub side-number : ℕ
-side-number = 64
+side-number = 256
 
 abbrev pub crossing-slots : ℕ
-crossing-slots = 4096
+crossing-slots = 65536
 
 abbrev pub marker-slots : ℕ
-marker-slots = 4096
+marker-slots = 8192
 
 abbrev pub distance-mark : ℕ
-distance-mark = 255
+distance-mark = 65535
 
 abbrev pub largest-number : ℕ
-largest-number = 255
+largest-number = 65535
+
+abbrev pub old-largest-number : ℕ
+old-largest-number = 255
+
+abbrev pub old-mark-number : ℕ
+old-mark-number = 255
 
 pub side-is : side ≡ side-number
 unfolding side
@@ -37,6 +44,14 @@ no-distance-is = refl
 pub largest-is : largest-value ≡ largest-number
 unfolding largest-value
 largest-is = refl
+
+pub old-largest-is : old-largest ≡ old-largest-number
+unfolding old-largest
+old-largest-is = refl
+
+pub old-mark-is : old-mark ≡ old-mark-number
+unfolding old-mark
+old-mark-is = refl
 
 pub most-crossings-is : side * side ≡ crossing-slots
 unfolding side

@@ -5,23 +5,32 @@ use mathlib.Core.List.{List}
 use Prim.Native.Nat.{ℕ, _+_, _*_, _-_, _<_, _≤_}
 use lib.ListN.{getD}
 
--- "Width and height: 1 to 64 each."
+-- "Width and height: 1 to 64 each"; "Raise width and height to 256" (document 02, Req 07).
 unfoldable pub side : ℕ
-side = 64
+side = 256
 
--- "At most 4,096 are in use."
+-- "At most 4,096 are in use"; "Raise ... markers in use to 8,192" (Req 07).
 unfoldable pub most-markers : ℕ
-most-markers = 4096
+most-markers = 8192
 
--- "... or 255 if there is none." "255 is no distance: the largest is 63."
+-- "... or 255 if there is none"; "Distances reach 255, so 255 can no longer mean 'none': the mark
+-- becomes 65,535 and distances take sixteen bits" (Req 07).
 unfoldable pub no-distance : ℕ
-no-distance = 255
+no-distance = 65535
 
--- "the largest value as a third number that must be 255" (document 02, Req 03)
+-- "PGM sheets are written with largest value 65535" (Req 07)
 unfoldable pub largest-value : ℕ
-largest-value = 255
+largest-value = 65535
 
--- "Width and height: 1 to 64 each."
+-- "Old one-byte sheets are still read, their 255 becoming 65,535": the largest value that they name
+-- in the header, and their mark where there is no distance.
+unfoldable pub old-largest : ℕ
+old-largest = 255
+
+unfoldable pub old-mark : ℕ
+old-mark = 255
+
+-- "Width and height: 1 to 64 each", with Req 07 to 256.
 pub record Sides (w h : ℕ) : Type 0 where
   pub some-w : 1 ≤ w
   pub some-h : 1 ≤ h
@@ -38,7 +47,7 @@ pub record On (w h x y : ℕ) : Type 0 where
 abbrev pub number : ℕ → ℕ → ℕ → ℕ
 number w x y = y * w + x
 
--- A sheet has one byte a crossing, by number: what stands there for (x, y).
+-- A sheet has one byte or sixteen-bit number a crossing, by number: what stands there for (x, y).
 abbrev pub at : List ℕ → ℕ → ℕ → ℕ → ℕ
 at s w x y = getD s (number w x y) 0
 

@@ -76,7 +76,7 @@ shared-crossing = 16
 abbrev pub short-output : ℕ
 short-output = 17
 
--- a picture's largest value other than the one that distances are written with
+-- a picture's largest value other than the two that sheets are, or were, written with
 abbrev pub bad-largest : ℕ
 bad-largest = 18
 

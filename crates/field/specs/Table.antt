@@ -123,9 +123,9 @@ R = place 3 2 ∷ place 4 3 ∷ place 5 2 ∷ []
 -- The table. Each row has its example's number and sentence above it.
 unfoldable pub table : List Row
 table =
-    -- 1. "No rocks: all 64 open; each distance 255."
+    -- 1. "No rocks: all 64 open; each distance 255." "example 1 and 7 show the new mark" (Req 07).
     labels [] [] 0 64
-    ∷ each-distance [] 255
+    ∷ each-distance [] 65535
     -- 2. "Rocks (1,1), (1,2), (2,1): (2,2) shut, nothing else."
     ∷ labels (place 1 1 ∷ place 1 2 ∷ place 2 1 ∷ []) (place 2 2 ∷ []) 1 60
     -- 3. "Rocks (1,1), (3,1): (2,1) shut."
@@ -138,9 +138,10 @@ table =
     -- shut."
     ∷ labels R (place 4 2 ∷ place 3 3 ∷ place 5 3 ∷ []) 1 58
     ∷ group R 3 5 2 3
-    -- 7. "R: (0,2) has 3, 255, 255, 255; (4,0) has 255, 255, 255, 2; (4,2) has four zeros."
-    ∷ distances R 0 2 (3 ∷ 255 ∷ 255 ∷ 255 ∷ [])
-    ∷ distances R 4 0 (255 ∷ 255 ∷ 255 ∷ 2 ∷ [])
+    -- 7. "R: (0,2) has 3, 255, 255, 255; (4,0) has 255, 255, 255, 2; (4,2) has four zeros." With
+    -- the new mark (Req 07), 65,535 for 255.
+    ∷ distances R 0 2 (3 ∷ 65535 ∷ 65535 ∷ 65535 ∷ [])
+    ∷ distances R 4 0 (65535 ∷ 65535 ∷ 65535 ∷ 2 ∷ [])
     ∷ distances R 4 2 (0 ∷ 0 ∷ 0 ∷ 0 ∷ [])
     -- 8. "R, home (0,2): assured for (2,5)"; with Req 02 "assured for (3,5), still not for (4,5)."
     ∷ assured R 0 2 2 5

@@ -3,20 +3,26 @@
 pub mod refusals; // refusals.rt: the refusal numbers
 pub mod reasons; // reasons.rt: why a drawn list is refused
 
-// "Width and height: 1 to 64 each."
-pub const SIDE: usize = 64;
+// "Width and height: 1 to 64 each"; "Raise width and height to 256" (document 02, Req 07).
+pub const SIDE: usize = 256;
 
 // The crossings of the largest map.
-pub const MOST_CROSSINGS: usize = 4096;
+pub const MOST_CROSSINGS: usize = 65536;
 
-// "At most 4,096 are in use."
-pub const MOST_MARKERS: usize = 4096;
+// "At most 4,096 are in use"; "Raise ... markers in use to 8,192" (Req 07).
+pub const MOST_MARKERS: usize = 8192;
 
-// "... or 255 if there is none."
-pub const NO_DISTANCE: u8 = 255;
+// "... or 255 if there is none"; "the mark becomes 65,535" (Req 07).
+pub const NO_DISTANCE: u16 = 65535;
 
-// "the largest value as a third number that must be 255" (document 02, Req 03)
-pub const LARGEST: usize = 255;
+// "PGM sheets are written with largest value 65535" (Req 07)
+pub const LARGEST: usize = 65535;
+
+// "Old one-byte sheets are still read, their 255 becoming 65,535": the largest value in their
+// header, and their mark where there is no distance.
+pub const OLD_LARGEST: usize = 255;
+
+pub const OLD_MARK: u8 = 255;
 
 // A rock marker: a sixteen-bit id and the crossing on which it stands, laid out for C.
 #[repr(C)]

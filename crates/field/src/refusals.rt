@@ -55,7 +55,7 @@ pub const SHARED_CROSSING: u8 = 16;
 // output too short for the whole file
 pub const SHORT_OUTPUT: u8 = 17;
 
-// a picture's largest value other than the one that distances are written with
+// a picture's largest value other than the two that sheets are, or were, written with
 pub const BAD_LARGEST: u8 = 18;
 
 // drive by way of crossing lines asked and no such column and row

@@ -29,8 +29,8 @@ fn on_map(w: usize, h: usize, x: usize, y: usize) -> bool
     y < h
 }
 
-// Whether a sheet of n bytes is of the map's size. The product is made only within the limit, so
-// that it does not overflow.
+// Whether a sheet of n bytes, or of n sixteen-bit numbers, is of the map's size. The product is made
+// only within the limit, so that it does not overflow.
 pub fn fits(w: usize, h: usize, n: usize) -> bool
     ensures { λ r. ⌜ ((r ≡ true) ↔ OneFit w h n) ⌝ }
 {

@@ -140,10 +140,10 @@ pub extern "C" fn bodkin_measure(
     w: usize,
     h: usize,
     labels: &mut [u8],
-    east: &mut [u8],
-    south: &mut [u8],
-    west: &mut [u8],
-    north: &mut [u8],
+    east: &mut [u16],
+    south: &mut [u16],
+    west: &mut [u16],
+    north: &mut [u16],
 ) -> u8
     ensures { λ r. ⌜ MeasureCall (lentMap (now (list .entry)) count w h) (now (labels .entry)) (now (east .entry)) (now (south .entry)) (now (west .entry)) (now (north .entry)) (now (labels .exit)) (now (east .exit)) (now (south .exit)) (now (west .exit)) (now (north .exit)) r ⌝ }
 {

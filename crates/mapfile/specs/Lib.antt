@@ -19,7 +19,6 @@ pub mod FileWorking
 pub mod FollowingLaws
 pub mod Pieces
 pub mod FollowingOutcome
-pub mod TurnedLaws
 pub mod MarkerLaws
 pub mod RockLaws
 pub mod PlainLaws

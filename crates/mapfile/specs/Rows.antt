@@ -112,6 +112,14 @@ padOf w l r x = ltb x w || eqb (packedBit w l r x) 0
 unfoldable pub byteOf : List ℕ → ℕ → Bool
 byteOf l i = ltb (getD l i 0) 256
 
+pub byte-of : (l : List ℕ) → every (length l) (byteOf l) ≡ true → (i : ℕ) → getD l i 0 < 256
+unfolding byteOf
+byte-of l e i = go (decLt i (length l))
+  where
+    go : Dec (i < length l) → getD l i 0 < 256
+    go (yes m) = ltb-true _ _ (every-one (length l) (byteOf l) e i m)
+    go (no m) = omega (arith, List·getD-eq-default l 0 {n = i} (omega arith))
+
 unfoldable pub packedOf : ℕ → ℕ → List Place → List ℕ → Bool
 packedOf w h rocks l =
     (eqb (length l) (h * rowBytes w) && every (length l) (byteOf l))
@@ -125,14 +133,6 @@ module _ (w h : ℕ) (rocks : List Place) (l : List ℕ) where
   pad-of : (r x : ℕ) → w ≤ x → padOf w l r x ≡ true → packedBit w l r x ≡ 0
   unfolding padOf
   pad-of r x m e = or-case (ltb x w) (eqb (packedBit w l r x) 0) (λ q. absurd (omega (arith, ltb-true x w q))) (eqb-true (packedBit w l r x) 0) e
-
-  byte-of : every (length l) (byteOf l) ≡ true → (i : ℕ) → getD l i 0 < 256
-  unfolding byteOf
-  byte-of e i = go (decLt i (length l))
-    where
-      go : Dec (i < length l) → getD l i 0 < 256
-      go (yes m) = ltb-true _ _ (every-one (length l) (byteOf l) e i m)
-      go (no m) = omega (arith, List·getD-eq-default l 0 {n = i} (omega arith))
 
   told-bit : (b : Bool) {n : ℕ} → n ≡ bit b → b ≡ true → n ≡ 1
   told-bit true p e = p
@@ -152,7 +152,7 @@ module _ (w h : ℕ) (rocks : List Place) (l : List ℕ) where
       λ r x p q. crossing-of r x (every-two h w (crossingOf w h rocks l) (k .0) x r q p) in
       record {
         size = eqb-true _ _ (g .0);
-        bytes = byte-of (g .1);
+        bytes = byte-of l (g .1);
         rock = λ r x p q m. told-bit _ (at r x p q) (of-rock (markersOn rocks) x (h - (r + 1)) m);
         free = λ r x p q m. untold-bit _ (at r x p q) (λ t. m (rock-of (markersOn rocks) x (h - (r + 1)) t));
         pad = λ r x p q m. pad-of r x q (every-two h (rowBytes w * 8) (padOf w l) (k .1) x r m p);

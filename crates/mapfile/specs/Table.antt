@@ -99,10 +99,10 @@ table =
     ∷ has-fault (80 ∷ 52 ∷ []) 13
     ∷ has-fault (80 ∷ 52 ∷ 10 ∷ 56 ∷ []) 13
     ∷ has-fault (80 ∷ 52 ∷ 10 ∷ 45 ∷ 56 ∷ 32 ∷ 49 ∷ 10 ∷ 1 ∷ []) 13
-    -- "13 in the header, 1, then the raster": sides of 0 and 65 before a raster cut short; no last
+    -- "13 in the header, 1, then the raster": sides of 0 and 257 before a raster cut short; no last
     -- blank before a side of 0.
     ∷ has-fault (80 ∷ 52 ∷ 10 ∷ 48 ∷ 32 ∷ 49 ∷ 10 ∷ []) 1
-    ∷ has-fault (80 ∷ 52 ∷ 10 ∷ 56 ∷ 32 ∷ 54 ∷ 53 ∷ 10 ∷ []) 1
+    ∷ has-fault (80 ∷ 52 ∷ 10 ∷ 56 ∷ 32 ∷ 50 ∷ 53 ∷ 55 ∷ 10 ∷ []) 1
     ∷ has-fault (80 ∷ 52 ∷ 10 ∷ 48 ∷ 32 ∷ 49 ∷ []) 13
     ∷ has-fault (80 ∷ 49 ∷ 10 ∷ 48 ∷ 32 ∷ 49 ∷ 10 ∷ 50 ∷ []) 1
     -- 14: "raster ends early"; 15: "bytes after the raster".

@@ -13,8 +13,9 @@ slot list k = getD list k blank
 
 -- "A marker is a record of a sixteen-bit id (1 to 65,535) and a crossing. The caller lends a list
 -- of marker records with a count of those in use. Ids in use rise strictly. At most 4,096 are in
--- use." Refusal 3 is given exactly where this fails: "count over 4,096 or over the list lent, an id
--- 0, ids not rising, or a marker off the map". Slots past the count are not looked at.
+-- use." "Raise ... markers in use to 8,192" (Req 07). Refusal 3 is given exactly where this fails:
+-- "count over 4,096 or over the list lent, an id 0, ids not rising, or a marker off the map", and
+-- "1, 3 and 7 read the new limits" (Req 07). Slots past the count are not looked at.
 pub record WellFormed (w h : ℕ) (list : List Marker) (count : ℕ) : Type 0 where
   pub few : count ≤ most-markers
   pub lent : count ≤ length list

@@ -78,8 +78,8 @@ table =
     ∷ formed (junk ∷ junk ∷ []) 0
     ∷ formed (m₁ ∷ m₃ ∷ junk ∷ []) 2
     -- Refusal 3: "count over 4,096 or over the list lent, an id 0, ids not rising, or a marker off
-    -- the map".
-    ∷ most 4096
+    -- the map"; "markers in use to 8,192" (Req 07).
+    ∷ most 8192
     ∷ not-formed (m₁ ∷ m₃ ∷ []) 3
     ∷ not-formed (marker 0 0 0 ∷ []) 1
     ∷ not-formed (m₁ ∷ m₅ ∷ m₃ ∷ []) 3

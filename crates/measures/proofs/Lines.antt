@@ -14,7 +14,7 @@ use Rattle.field.specs.Limits.{side-is}
 use Rattle.field.specs.Workings.Sheet.{Marked, number-lt}
 use Rattle.field.specs.Workings.GridLaws.{number-one}
 use Rattle.sheets.specs.Promise.{Fits, Numbered}
-use Rattle.measures.specs.Eights.{AllAre}
+use Rattle.measures.specs.Fours.{AllAre}
 use Rattle.measures.specs.Running.{nth, Nth, onTo, Room, rowWay, columnWay, lead, placed, lowestOf, OnLine}
 use Rattle.measures.proofs.Ahead.{Onward, Ahead, ahead-edge, ahead-next, onward-clear}
 
@@ -101,22 +101,22 @@ module _ {e : Bool} {start n : ℕ} {u : List ℕ} (on : OnLine e start n u) whe
       go true below j k p q d = let l = below refl in omega arith
       go false below j k p q d = omega arith
 
-  -- Eight places side by side on the sheet.
-  pub eight-in : (k : ℕ) → k + 8 ≤ n → lowestOf e start k + 8 ≤ length u
-  eight-in k p = go e (on .below) (on .inside k (omega arith)) (on .inside (k + 7) (omega arith))
+  -- Four places side by side on the sheet.
+  pub four-in : (k : ℕ) → k + 4 ≤ n → lowestOf e start k + 4 ≤ length u
+  four-in k p = go e (on .below) (on .inside k (omega arith)) (on .inside (k + 3) (omega arith))
     where
-      go : (e : Bool) → (e ≡ true → n ≤ start + 1) → onTo e start k < length u → onTo e start (k + 7) < length u → lowestOf e start k + 8 ≤ length u
+      go : (e : Bool) → (e ≡ true → n ≤ start + 1) → onTo e start k < length u → onTo e start (k + 3) < length u → lowestOf e start k + 4 ≤ length u
       go true below a b = let l = below refl in omega arith
       go false below a b = omega arith
 
-  pub eight-at : {m : ℕ} (k : ℕ) → k + 8 ≤ n → AllAre (lowestOf e start k) m u → (j : ℕ) → k ≤ j → j < k + 8 → placed e start u j ≡ m
-  eight-at {m} k p all j l q = go e (on .below) all
+  pub four-at : {m : ℕ} (k : ℕ) → k + 4 ≤ n → AllAre (lowestOf e start k) m u → (j : ℕ) → k ≤ j → j < k + 4 → placed e start u j ≡ m
+  four-at {m} k p all j l q = go e (on .below) all
     where
       go : (e : Bool) → (e ≡ true → n ≤ start + 1) → AllAre (lowestOf e start k) m u → placed e start u j ≡ m
       go true below all =
           let b = below refl in
-          let i : lowestOf true start k + (k + 7 - j) ≡ onTo true start j = omega arith in
-          rw i at (all (k + 7 - j) (omega arith))
+          let i : lowestOf true start k + (k + 3 - j) ≡ onTo true start j = omega arith in
+          rw i at (all (k + 3 - j) (omega arith))
       go false below all =
           let i : lowestOf false start k + (j - k) ≡ onTo false start j = omega arith in
           rw i at (all (j - k) (omega arith))

@@ -1,4 +1,4 @@
--- Places that are passed without a number being made: those that all have the same, eight at a time,
+-- Places that are passed without a number being made: those that all have the same, four at a time,
 -- and those that are not closed, one by one.
 use mathlib.Core.Path.{_≡_, sym, subst}
 use mathlib.Core.Bool.{Bool}
@@ -8,20 +8,20 @@ use Prim.Native.Nat.{ℕ, _+_, _<_, _≤_}
 use native.Mathlib.Omega.{arith}
 use native.Mathlib.Decide.{decLt, ℕ-discrete}
 use Rattle.measures.specs.Running.{placed, lowestOf, OnLine, Past, Met}
-use Rattle.measures.specs.Eights.{AllAre}
-use Rattle.measures.proofs.Lines.{eight-at}
+use Rattle.measures.specs.Fours.{AllAre}
+use Rattle.measures.proofs.Lines.{four-at}
 
 pub past-none : {m : ℕ} {e : Bool} {start from n : ℕ} {u : List ℕ} → from ≤ n → Past m e start from n u from
 past-none l = record { least = omega arith; most = l; same = λ j p q. absurd (omega arith) }
 
-pub past-more : {m : ℕ} {e : Bool} {start from n k : ℕ} {u : List ℕ} → OnLine e start n u → Past m e start from n u k → k + 8 ≤ n
-    → AllAre (lowestOf e start k) m u → Past m e start from n u (k + 8)
+pub past-more : {m : ℕ} {e : Bool} {start from n k : ℕ} {u : List ℕ} → OnLine e start n u → Past m e start from n u k → k + 4 ≤ n
+    → AllAre (lowestOf e start k) m u → Past m e start from n u (k + 4)
 past-more {m} {e} {start} {from} {n} {k} {u} on p l all =
     record { least = omega (arith, p .least); most = l; same = λ j q r. go j q r (decLt j k) }
   where
-    go : (j : ℕ) → from ≤ j → j < k + 8 → Dec (j < k) → placed e start u j ≡ m
+    go : (j : ℕ) → from ≤ j → j < k + 4 → Dec (j < k) → placed e start u j ≡ m
     go j q r (yes d) = p .same j q d
-    go j q r (no d) = eight-at on k l all j (omega arith) r
+    go j q r (no d) = four-at on k l all j (omega arith) r
 
 -- The places from one on, up to place k, none of them closed.
 pub record Free (e : Bool) (start from n : ℕ) (u : List ℕ) (k : ℕ) : Type 0 where

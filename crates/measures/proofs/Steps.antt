@@ -16,7 +16,7 @@ far-fits = omega (arith, side-is, no-distance-is)
 
 -- The mark for none has every bit set.
 none-masks : (n : ℕ) → n ≤ no-distance → bitAnd n no-distance ≡ n
-none-masks n l = ap (bitAnd n) no-distance-is ∙ omega (arith, no-distance-is, and-mask n 8)
+none-masks n l = ap (bitAnd n) no-distance-is ∙ omega (arith, no-distance-is, and-mask n 16)
 
 none-some : no-distance ≡ 0 → ⊥
 none-some e = omega (arith, no-distance-is)

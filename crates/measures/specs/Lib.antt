@@ -2,4 +2,4 @@
 -- another.
 pub mod Promise
 pub mod Running
-pub mod Eights
+pub mod Fours

@@ -108,9 +108,9 @@ pub record OnLineFrom (e : Bool) (start from n : ℕ) (u : List ℕ) : Type 0 wh
   pub line : OnLine e start n u
   pub within : from ≤ n
 
--- The lowest number of the eight places from place k on.
+-- The lowest number of the four places from place k on.
 abbrev pub lowestOf : Bool → ℕ → ℕ → ℕ
-lowestOf true start k = start - (k + 7)
+lowestOf true start k = start - (k + 3)
 lowestOf false start k = start + k
 
 -- From one place on, up to place r, all have m.

@@ -11,7 +11,7 @@ ghost use Rattle.sheets.specs.Promise.{Fits};
 
 // A crossing's number, of its neighbour's and of its own: 0 where it is closed, none where the
 // neighbour has none, and else one more.
-fn run_on(last: u8, own: u8) -> u8
+fn run_on(last: u16, own: u16) -> u16
     ensures { λ r. ⌜ r ≡ onward last own ⌝ }
 {
     if own == 0 {
@@ -25,7 +25,7 @@ fn run_on(last: u8, own: u8) -> u8
 
 // Row y, of its own numbers and of row z, which it looks to. Nothing in it waits for its neighbour
 // in the row, so a compiler takes it many crossings at a time.
-fn row(w: usize, h: usize, y: usize, z: usize, out: &mut [u8])
+fn row(w: usize, h: usize, y: usize, z: usize, out: &mut [u16])
     requires { ⌜ Beside w h y z (now out) ⌝ }
     ensures { λ _. ⌜ RowMade w h y z (now (out .entry)) (now (out .exit)) ⌝ }
 {
@@ -39,7 +39,7 @@ fn row(w: usize, h: usize, y: usize, z: usize, out: &mut [u8])
 }
 
 // Every row but the one at the edge, whose own numbers are its distances.
-fn rows(w: usize, h: usize, high: bool, out: &mut [u8])
+fn rows(w: usize, h: usize, high: bool, out: &mut [u16])
     requires { ⌜ Fits w h (now out) ⌝ }
     ensures { λ _. ⌜ ColumnsRun w h high (now (out .entry)) (now (out .exit)) ⌝ }
 {
@@ -51,7 +51,7 @@ fn rows(w: usize, h: usize, high: bool, out: &mut [u8])
 }
 
 // The distances one way along the columns.
-pub(crate) fn sheet(s: &[u8], w: usize, h: usize, high: bool, out: &mut [u8])
+pub(crate) fn sheet(s: &[u8], w: usize, h: usize, high: bool, out: &mut [u16])
     requires { ⌜ Ready w h (now s) (now out) ⌝ }
     ensures { λ _. ⌜ DistanceSheet w h (Marked (now (s .entry)) w h) (columnWay high) (now (out .exit)) ⌝ }
 {

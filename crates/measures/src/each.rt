@@ -29,7 +29,7 @@ pub(crate) fn further(high: bool, start: usize, k: usize) -> usize
 }
 
 // What a crossing has by itself: 0 where it is closed, none elsewhere.
-fn own_of(mark: u8) -> u8
+fn own_of(mark: u8) -> u16
     ensures { λ r. ⌜ OwnOf mark r ⌝ }
 {
     if mark == 0 {
@@ -39,7 +39,7 @@ fn own_of(mark: u8) -> u8
 }
 
 // The same for every crossing.
-pub(crate) fn own(s: &[u8], out: &mut [u8])
+pub(crate) fn own(s: &[u8], out: &mut [u16])
     requires { ⌜ length (now out) ≡ length (now s) ⌝ }
     ensures { λ _. ⌜ Owned (now (s .entry)) (now (out .exit)) ⌝ }
 {

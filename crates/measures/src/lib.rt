@@ -5,7 +5,7 @@
 mod across; // across.rt: the running numbers along the columns, south and north
 mod along; // along.rt: the running number along a row, east and west
 mod each; // each.rt: what is done to every crossing by itself
-mod eights; // eights.rt: eight numbers at a time
+mod fours; // fours.rt: four numbers at a time
 
 ghost use Rattle.measures.specs.Promise.{SheetsLent, Measured};
 
@@ -15,10 +15,10 @@ pub fn measure(
     s: &[u8],
     w: usize,
     h: usize,
-    east: &mut [u8],
-    south: &mut [u8],
-    west: &mut [u8],
-    north: &mut [u8],
+    east: &mut [u16],
+    south: &mut [u16],
+    west: &mut [u16],
+    north: &mut [u16],
 )
     requires { ⌜ SheetsLent w h (now s) (now east) (now south) (now west) (now north) ⌝ }
     ensures { λ _. ⌜ Measured w h (now (s .entry)) (now (east .exit)) (now (south .exit)) (now (west .exit)) (now (north .exit)) ⌝ }

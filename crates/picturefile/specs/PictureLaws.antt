@@ -10,10 +10,12 @@ use lib.ListN.{length, getD}
 use Rattle.mapfile.specs.Header.{Header}
 use Rattle.mapfile.specs.HeadingWorking.{Heading, heading, no-heading, headingOf, HeadingTold, heading-told}
 use Rattle.mapfile.specs.HeaderLaws.{headers-one}
-use Rattle.mapfile.specs.TurnedLaws.{turned-one}
 use Rattle.mapfile.specs.FileWorking.{afterTwo, TwoTold, two-told}
+use Rattle.picturefile.specs.declared.Depth.{Depth}
+use Rattle.picturefile.specs.Depths.{Drawn}
+use Rattle.picturefile.specs.DepthLaws.{depth-one, drawn-one}
 use Rattle.picturefile.specs.Picture.{picture-letters, Begins, PictureFile, PictureFault, no-letters, no-header, no-sides, other-largest, other-sheet, ends-early, goes-on}
-use Rattle.picturefile.specs.Working.{Seen, a-picture, a-fault, sidesSeen, headedSeen, lettersSeen, pictureSeen}
+use Rattle.picturefile.specs.Working.{Seen, a-picture, a-fault, headedSeen, lettersSeen, pictureSeen}
 use Rattle.picturefile.specs.WorkingLaws.{three-values, picture-seen, fault-seen, PictureTold, begins-told}
 
 -- A file has one beginning.
@@ -33,7 +35,8 @@ picture-one {file} {sheet} {sheet′} {w} {h} {w′} {h′} p q =
     let a : w ≡ w′ = e .0 in
     let b : h ≡ h′ = e .1 in
     let c : q .body ≡ p .body = sym (e .3) in
-    (a, b, turned-one (p .turned) (rw (a, b, ← c) (q .turned)))
+    let d : q .depth ≡ p .depth = sym (depth-one (p .depth) (q .depth) (e .2)) in
+    (a, b, drawn-one (p .drawn) (rw (a, b, ← c, ← d) (q .drawn)))
 
 pub picture-fault-one : {file : List ℕ} {lent n m : ℕ} → PictureFault file lent n → PictureFault file lent m → n ≡ m
 picture-fault-one {file} {lent} {n} {m} a b = let e : a-fault n ≡ a-fault m = sym (fault-seen a) ∙ fault-seen b in cc
@@ -50,15 +53,15 @@ fault-some (no-letters f e) z = omega arith
 fault-some (no-header after l f e) z = omega arith
 fault-some (no-sides w h m body b s e) z = omega arith
 fault-some (other-largest w h m body b s l e) z = omega arith
-fault-some (other-sheet w h body b s l e) z = omega arith
-fault-some (ends-early w h body b s l m e) z = omega arith
-fault-some (goes-on w h body b s l m e) z = omega arith
+fault-some (other-sheet d w h body b s l e) z = omega arith
+fault-some (ends-early d w h body b s l m e) z = omega arith
+fault-some (goes-on d w h body b s l m e) z = omega arith
 
 -- Soundness of the working: what is seen tells the file.
 module _ (file : List ℕ) (lent : ℕ) where
   headed-told : (after : List ℕ) → file ≡ picture-letters ++ after → (k : Heading) → HeadingTold 3 after k → PictureTold file lent (headedSeen lent k)
   unfolding headedSeen
-  headed-told after l (heading vs body) t = begins-told lent begins (sidesSeen lent (getD vs 0 0) (getD vs 1 0) (getD vs 2 0) body) refl
+  headed-told after l (heading vs body) t = begins-told lent begins
     where
       begins : Begins file (getD vs 0 0) (getD vs 1 0) (getD vs 2 0) body
       begins = record { after = after; letters = l; header = subst (λ (us : List ℕ). Header us after body) (three-values vs (t .0)) (t .1) }

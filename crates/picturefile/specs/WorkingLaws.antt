@@ -7,16 +7,17 @@ use Prim.Native.Nat.{ℕ, _*_, _<_}
 use native.Mathlib.Omega.{arith}
 use native.Mathlib.Decide.{decLt, ℕ-discrete}
 use lib.ListN.{length, getD}
-use Rattle.field.specs.Map.{Sides, largest-value}
+use Rattle.field.specs.Map.{Sides, largest-value, old-largest}
+use Rattle.field.specs.Limits.{largest-is, old-largest-is}
 use Rattle.field.specs.Refusals.{bad-size, bad-sheet, bad-letters, bad-header, short-raster, long-raster, bad-largest}
-use Rattle.field.specs.Workings.Sheet.{sheet, sheet-length, sheet-at}
 use Rattle.mapfile.specs.Header.{Header}
 use Rattle.mapfile.specs.HeaderWorking.{pick, pick-yes, pick-no}
 use Rattle.mapfile.specs.HeadingWorking.{Heading, heading, no-heading, headingOf, HeadingTold, heading-told, heading-found}
-use Rattle.mapfile.specs.File.{rasterPlace}
 use Rattle.mapfile.specs.FileWorking.{sidesDec, afterTwo, TwoTold, two-told, two-found}
-use Rattle.mapfile.specs.Turned.{Turned}
-use Rattle.mapfile.specs.TurnedLaws.{turned-one}
+use Rattle.picturefile.specs.declared.Depth.{Depth}
+use Rattle.picturefile.specs.declared.Depth.the-variants.{OneByte, TwoBytes}
+use Rattle.picturefile.specs.Depths.{largestOf, bytesOf}
+use Rattle.picturefile.specs.DepthLaws.{drawn-one, drawn-of}
 use Rattle.picturefile.specs.Picture.{
   picture-letters,
   Begins,
@@ -34,7 +35,7 @@ use Rattle.picturefile.specs.Working.{
   Seen,
   a-picture,
   a-fault,
-  turnedOf,
+  sheetOf,
   lengthSeen,
   sheetSeen,
   largestSeen,
@@ -44,55 +45,60 @@ use Rattle.picturefile.specs.Working.{
   pictureSeen,
 }
 
-pub turned-of : (w h : ℕ) (body : List ℕ) → Turned w h body (turnedOf w h body)
-unfolding turnedOf
-turned-of w h body =
-    record {
-      size = sheet-length w h (λ x y. getD body (rasterPlace w h x y) 0);
-      is = λ x y o. sheet-at w h (λ x y. getD body (rasterPlace w h x y) 0) x y o;
-    }
-
--- The steps of the tests.
-module _ (lent w h : ℕ) (body : List ℕ) where
-  seen-picture : length body ≡ h * w → lengthSeen w h body ≡ a-picture w h (turnedOf w h body)
+-- The steps of the tests: those of a kind of picture.
+module _ (lent : ℕ) (d : Depth) (w h : ℕ) (body : List ℕ) where
+  seen-picture : length body ≡ h * w * bytesOf d → lengthSeen d w h body ≡ a-picture w h (sheetOf d w h body)
   unfolding lengthSeen
-  seen-picture e = pick-no (decLt (length body) (h * w)) _ _ (λ l. omega arith) ∙ pick-no (decLt (h * w) (length body)) _ _ (λ l. omega arith)
+  seen-picture e =
+      pick-no (decLt (length body) (h * w * bytesOf d)) _ _ (λ l. omega arith)
+      ∙ pick-no (decLt (h * w * bytesOf d) (length body)) _ _ (λ l. omega arith)
 
-  seen-short : length body < h * w → lengthSeen w h body ≡ a-fault short-raster
+  seen-short : length body < h * w * bytesOf d → lengthSeen d w h body ≡ a-fault short-raster
   unfolding lengthSeen
-  seen-short l = pick-yes (decLt (length body) (h * w)) _ _ l
+  seen-short l = pick-yes (decLt (length body) (h * w * bytesOf d)) _ _ l
 
-  seen-long : h * w < length body → lengthSeen w h body ≡ a-fault long-raster
+  seen-long : h * w * bytesOf d < length body → lengthSeen d w h body ≡ a-fault long-raster
   unfolding lengthSeen
-  seen-long l = pick-no (decLt (length body) (h * w)) _ _ (λ m. omega arith) ∙ pick-yes (decLt (h * w) (length body)) _ _ l
+  seen-long l =
+      pick-no (decLt (length body) (h * w * bytesOf d)) _ _ (λ m. omega arith) ∙ pick-yes (decLt (h * w * bytesOf d) (length body)) _ _ l
 
-  seen-sheet : lent ≡ h * w → sheetSeen lent w h body ≡ lengthSeen w h body
+  seen-sheet : lent ≡ h * w → sheetSeen lent d w h body ≡ lengthSeen d w h body
   unfolding sheetSeen
   seen-sheet e = pick-yes (ℕ-discrete lent (h * w)) _ _ e
 
-  seen-no-sheet : ¬ (lent ≡ h * w) → sheetSeen lent w h body ≡ a-fault bad-sheet
+  seen-no-sheet : ¬ (lent ≡ h * w) → sheetSeen lent d w h body ≡ a-fault bad-sheet
   unfolding sheetSeen
   seen-no-sheet n = pick-no (ℕ-discrete lent (h * w)) _ _ n
 
-  seen-largest : (largest : ℕ) → largest ≡ largest-value → largestSeen lent w h largest body ≡ sheetSeen lent w h body
+-- Those of the largest value, which tells the kind, and of the sides.
+module _ (lent w h largest : ℕ) (body : List ℕ) where
+  seen-largest : (d : Depth) → largest ≡ largestOf d → largestSeen lent w h largest body ≡ sheetSeen lent d w h body
   unfolding largestSeen
-  seen-largest largest e = pick-yes (ℕ-discrete largest largest-value) _ _ e
+  seen-largest OneByte e = pick-yes (ℕ-discrete largest old-largest) _ _ e
+  seen-largest TwoBytes e =
+      pick-no (ℕ-discrete largest old-largest) _ _ (λ q. omega (arith, largest-is, old-largest-is)) ∙ pick-yes (ℕ-discrete largest largest-value) _ _ e
 
-  seen-no-largest : (largest : ℕ) → ¬ (largest ≡ largest-value) → largestSeen lent w h largest body ≡ a-fault bad-largest
+  seen-no-largest : ((d : Depth) → ¬ (largest ≡ largestOf d)) → largestSeen lent w h largest body ≡ a-fault bad-largest
   unfolding largestSeen
-  seen-no-largest largest n = pick-no (ℕ-discrete largest largest-value) _ _ n
+  seen-no-largest n =
+      pick-no (ℕ-discrete largest old-largest) _ _ (n OneByte) ∙ pick-no (ℕ-discrete largest largest-value) _ _ (n TwoBytes)
 
-  seen-sides : (largest : ℕ) → Sides w h → sidesSeen lent w h largest body ≡ largestSeen lent w h largest body
+  seen-sides : Sides w h → sidesSeen lent w h largest body ≡ largestSeen lent w h largest body
   unfolding sidesSeen
-  seen-sides largest s = pick-yes (sidesDec w h) _ _ s
+  seen-sides s = pick-yes (sidesDec w h) _ _ s
 
-  seen-no-sides : (largest : ℕ) → ¬ Sides w h → sidesSeen lent w h largest body ≡ a-fault bad-size
+  seen-no-sides : ¬ Sides w h → sidesSeen lent w h largest body ≡ a-fault bad-size
   unfolding sidesSeen
-  seen-no-sides largest n = pick-no (sidesDec w h) _ _ n
+  seen-no-sides n = pick-no (sidesDec w h) _ _ n
 
-  -- Past the header's tests, to the raster's.
-  seen-whole : Sides w h → lent ≡ h * w → sidesSeen lent w h largest-value body ≡ lengthSeen w h body
-  seen-whole s e = seen-sides largest-value s ∙ seen-largest largest-value refl ∙ seen-sheet e
+-- Past the header's tests, to the sheet's.
+seen-kind : (lent : ℕ) (d : Depth) (w h : ℕ) (body : List ℕ) → Sides w h → sidesSeen lent w h (largestOf d) body ≡ sheetSeen lent d w h body
+seen-kind lent d w h body s = seen-sides lent w h (largestOf d) body s ∙ seen-largest lent w h (largestOf d) body d refl
+
+-- And to the raster's.
+seen-whole : (lent : ℕ) (d : Depth) (w h : ℕ) (body : List ℕ) → Sides w h → lent ≡ h * w
+    → sidesSeen lent w h (largestOf d) body ≡ lengthSeen d w h body
+seen-whole lent d w h body s e = seen-kind lent d w h body s ∙ seen-sheet lent d w h body e
 
 -- A beginning is seen by its three numbers.
 pub begins-seen : {file body : List ℕ} {w h largest : ℕ} (lent : ℕ) → Begins file w h largest body
@@ -132,52 +138,68 @@ header-seen {file} lent after e n = ap (lettersSeen lent) (two-found 80 53 file 
 pub picture-seen : {file sheet : List ℕ} {w h : ℕ} (lent : ℕ) → PictureFile file w h sheet → lent ≡ h * w
     → pictureSeen file lent ≡ a-picture w h sheet
 picture-seen {file} {sheet} {w} {h} lent p e =
-    begins-seen lent (p .begins) ∙ seen-whole lent w h (p .body) (p .sides) e ∙ seen-picture lent w h (p .body) (p .size)
-    ∙ ap (a-picture w h) (turned-one (turned-of w h (p .body)) (p .turned))
+    begins-seen lent (p .begins)
+    ∙ seen-whole lent (p .depth) w h (p .body) (p .sides) e
+    ∙ seen-picture lent (p .depth) w h (p .body) (p .drawn .whole)
+    ∙ ap (a-picture w h) (drawn-one (drawn-of (p .depth) w h (p .body) (p .drawn .whole)) (p .drawn))
 
 pub fault-seen : {file : List ℕ} {lent n : ℕ} → PictureFault file lent n → pictureSeen file lent ≡ a-fault n
 fault-seen {file} {lent} {n} (no-letters f e) = letters-seen lent f ∙ ap a-fault (sym e)
 fault-seen {file} {lent} {n} (no-header after l f e) = header-seen lent after l f ∙ ap a-fault (sym e)
-fault-seen {file} {lent} {n} (no-sides w h m body b s e) = begins-seen lent b ∙ seen-no-sides lent w h body m s ∙ ap a-fault (sym e)
+fault-seen {file} {lent} {n} (no-sides w h m body b s e) = begins-seen lent b ∙ seen-no-sides lent w h m body s ∙ ap a-fault (sym e)
 fault-seen {file} {lent} {n} (other-largest w h m body b s l e) =
-    begins-seen lent b ∙ seen-sides lent w h body m s ∙ seen-no-largest lent w h body m l ∙ ap a-fault (sym e)
-fault-seen {file} {lent} {n} (other-sheet w h body b s l e) =
-    begins-seen lent b ∙ seen-sides lent w h body largest-value s ∙ seen-largest lent w h body largest-value refl
-    ∙ seen-no-sheet lent w h body l ∙ ap a-fault (sym e)
-fault-seen {file} {lent} {n} (ends-early w h body b s l m e) =
-    begins-seen lent b ∙ seen-whole lent w h body s l ∙ seen-short lent w h body m ∙ ap a-fault (sym e)
-fault-seen {file} {lent} {n} (goes-on w h body b s l m e) =
-    begins-seen lent b ∙ seen-whole lent w h body s l ∙ seen-long lent w h body m ∙ ap a-fault (sym e)
+    begins-seen lent b ∙ seen-sides lent w h m body s ∙ seen-no-largest lent w h m body l ∙ ap a-fault (sym e)
+fault-seen {file} {lent} {n} (other-sheet d w h body b s l e) =
+    begins-seen lent b ∙ seen-kind lent d w h body s ∙ seen-no-sheet lent d w h body l ∙ ap a-fault (sym e)
+fault-seen {file} {lent} {n} (ends-early d w h body b s l m e) =
+    begins-seen lent b ∙ seen-whole lent d w h body s l ∙ seen-short lent d w h body m ∙ ap a-fault (sym e)
+fault-seen {file} {lent} {n} (goes-on d w h body b s l m e) =
+    begins-seen lent b ∙ seen-whole lent d w h body s l ∙ seen-long lent d w h body m ∙ ap a-fault (sym e)
 
 -- Soundness: what is seen tells the file.
 abbrev pub PictureTold : List ℕ → ℕ → Seen → Type 0
 PictureTold file lent (a-picture w h sheet) = PictureFile file w h sheet × (lent ≡ h * w)
 PictureTold file lent (a-fault n) = PictureFault file lent n
 
--- Of a beginning, by its tests.
-pub begins-told : {file body : List ℕ} {w h largest : ℕ} (lent : ℕ) → Begins file w h largest body → (o : Seen) → sidesSeen lent w h largest body ≡ o
-    → PictureTold file lent o
-begins-told {file} {body} {w} {h} {largest} lent b o e = subst (PictureTold file lent) e (go (sidesDec w h) (ℕ-discrete largest largest-value) (ℕ-discrete lent (h * w)) (decLt (length body) (h * w)) (decLt (h * w) (length body)))
+-- Of the beginning of a kind of picture, by the tests of the sheet and the raster.
+kind-told : {file body : List ℕ} {w h : ℕ} (lent : ℕ) (d : Depth) → Begins file w h (largestOf d) body → Sides w h
+    → PictureTold file lent (sheetSeen lent d w h body)
+kind-told {file} {body} {w} {h} lent d b s =
+    go (ℕ-discrete lent (h * w)) (decLt (length body) (h * w * bytesOf d)) (decLt (h * w * bytesOf d) (length body))
+  where
+    told : {k : Seen} → sheetSeen lent d w h body ≡ k → PictureTold file lent k → PictureTold file lent (sheetSeen lent d w h body)
+    told q t = subst (PictureTold file lent) (sym q) t
+
+    go : Dec (lent ≡ h * w) → Dec (length body < h * w * bytesOf d) → Dec (h * w * bytesOf d < length body)
+        → PictureTold file lent (sheetSeen lent d w h body)
+    go (no l) p q = told (seen-no-sheet lent d w h body l) (other-sheet d w h body b s l refl)
+    go (yes l) (yes p) q = told (seen-sheet lent d w h body l ∙ seen-short lent d w h body p) (ends-early d w h body b s l p refl)
+    go (yes l) (no p) (yes q) = told (seen-sheet lent d w h body l ∙ seen-long lent d w h body q) (goes-on d w h body b s l q refl)
+    go (yes l) (no p) (no q) =
+        let e : length body ≡ h * w * bytesOf d = omega arith in
+        told (seen-sheet lent d w h body l ∙ seen-picture lent d w h body e)
+        (record { depth = d; body = body; begins = b; sides = s; drawn = drawn-of d w h body e }, l)
+
+-- Of any beginning, by its tests.
+pub begins-told : {file body : List ℕ} {w h largest : ℕ} (lent : ℕ) → Begins file w h largest body → PictureTold file lent (sidesSeen lent w h largest body)
+begins-told {file} {body} {w} {h} {largest} lent b = go (sidesDec w h) (ℕ-discrete largest old-largest) (ℕ-discrete largest largest-value)
   where
     told : {k : Seen} → sidesSeen lent w h largest body ≡ k → PictureTold file lent k → PictureTold file lent (sidesSeen lent w h largest body)
     told q t = subst (PictureTold file lent) (sym q) t
 
-    same : largest ≡ largest-value → Begins file w h largest-value body
-    same q = subst (λ (m : ℕ). Begins file w h m body) q b
+    kind : (d : Depth) → largest ≡ largestOf d → Sides w h → PictureTold file lent (sidesSeen lent w h largest body)
+    kind d e s =
+        told (seen-sides lent w h largest body s ∙ seen-largest lent w h largest body d e)
+        (kind-told lent d (subst (λ (m : ℕ). Begins file w h m body) e b) s)
 
-    before : largest ≡ largest-value → Sides w h → sidesSeen lent w h largest body ≡ sheetSeen lent w h body
-    before q s = seen-sides lent w h body largest s ∙ seen-largest lent w h body largest q
+    neither : ¬ (largest ≡ old-largest) → ¬ (largest ≡ largest-value) → (d : Depth) → ¬ (largest ≡ largestOf d)
+    neither m n OneByte e = m e
+    neither m n TwoBytes e = n e
 
-    go : Dec (Sides w h) → Dec (largest ≡ largest-value) → Dec (lent ≡ h * w) → Dec (length body < h * w) → Dec (h * w < length body)
-        → PictureTold file lent (sidesSeen lent w h largest body)
-    go (no s) m l p q = told (seen-no-sides lent w h body largest s) (no-sides w h largest body b s refl)
-    go (yes s) (no m) l p q =
-        told (seen-sides lent w h body largest s ∙ seen-no-largest lent w h body largest m) (other-largest w h largest body b s m refl)
-    go (yes s) (yes m) (no l) p q = told (before m s ∙ seen-no-sheet lent w h body l) (other-sheet w h body (same m) s l refl)
-    go (yes s) (yes m) (yes l) (yes p) q =
-        told (before m s ∙ seen-sheet lent w h body l ∙ seen-short lent w h body p) (ends-early w h body (same m) s l p refl)
-    go (yes s) (yes m) (yes l) (no p) (yes q) =
-        told (before m s ∙ seen-sheet lent w h body l ∙ seen-long lent w h body q) (goes-on w h body (same m) s l q refl)
-    go (yes s) (yes m) (yes l) (no p) (no q) =
-        told (before m s ∙ seen-sheet lent w h body l ∙ seen-picture lent w h body (omega arith))
-        (record { body = body; begins = same m; sides = s; size = omega arith; turned = turned-of w h body }, l)
+    go : Dec (Sides w h) → Dec (largest ≡ old-largest) → Dec (largest ≡ largest-value) → PictureTold file lent (sidesSeen lent w h largest body)
+    go (no s) m n = told (seen-no-sides lent w h largest body s) (no-sides w h largest body b s refl)
+    go (yes s) (yes m) n = kind OneByte m s
+    go (yes s) (no m) (yes n) = kind TwoBytes n s
+    go (yes s) (no m) (no n) =
+        told (seen-sides lent w h largest body s ∙ seen-no-largest lent w h largest body (neither m n))
+        (other-largest w h largest body b s (neither m n) refl)

@@ -6,15 +6,19 @@ use Prim.Native.Nat.{ℕ, _*_, _-_, _≤_}
 use native.Mathlib.Omega.{arith}
 use native.Mathlib.Decide.{ℕ-discrete}
 use lib.ListN.{length, getD, drop, length-drop}
-use Rattle.field.specs.Map.{Sides, largest-value}
+use Rattle.field.specs.Map.{Sides, largest-value, old-largest}
+use Rattle.field.specs.Limits.{largest-is, old-largest-is}
 use Rattle.field.specs.Refusals.{success, bad-size, bad-sheet, bad-letters, bad-header}
 use Rattle.calls.specs.Rule.{Gives}
 use Rattle.mapfile.specs.Header.{Header}
-use Rattle.mapfile.specs.Turned.{Turned}
+use Rattle.mapfile.specs.HeaderWorking.{pick-yes, pick-no}
 use Rattle.header.specs.Letters.{SameTwo, two-first, first-two}
 use Rattle.header.specs.HeaderParts.{HeadRead}
 use Rattle.header.specs.declared.Head.{Head}
 use Rattle.header.specs.declared.Head.the-variants.{Body, Missing}
+use Rattle.picturefile.specs.declared.Depth.{Depth}
+use Rattle.picturefile.specs.declared.Depth.the-variants.{OneByte, TwoBytes}
+use Rattle.picturefile.specs.Depths.{largestOf, bytesOf, Drawn}
 use Rattle.picturefile.specs.Picture.{
   picture-letters,
   Begins,
@@ -34,7 +38,7 @@ use Rattle.calls.specs.RuleLaws.{holds, sides-hold}
 use Rattle.calls.specs.PictureCalls.{not-written, not-read, WriteSheetCall, ReadSheetCall}
 use Rattle.calls.specs.declared.SheetWritten.{SheetWritten}
 use Rattle.calls.specs.declared.SheetRead.{SheetRead}
-use Rattle.picturing.specs.Parts.{Puts, too-short, whole, picture-judged}
+use Rattle.picturing.specs.Parts.{Puts, too-short, whole, Known, depthOf, picture-judged}
 
 -- A sheet of the map's size passes row 2.
 fits : {w h : ℕ} {sheet : List ℕ} → Fits w h sheet → (¬ (length sheet ≡ h * w)) ⊎ ⊥ → ⊥
@@ -91,28 +95,50 @@ head-begins file numbers k at t size g q =
     let f = subst (HeadRead file 2 numbers) q g in
     (f .within refl, record { after = drop 2 file; letters = two-first file 80 53 t; header = subst (λ (vs : List ℕ). Header vs (drop 2 file) (drop at file)) (three-values numbers size) (f .header refl) })
 
+-- A largest value is known or not, and of one that is known the kind is told.
+known-dec : (largest : ℕ) → Dec (Known largest)
+known-dec largest = go (ℕ-discrete largest old-largest) (ℕ-discrete largest largest-value)
+  where
+    go : Dec (largest ≡ old-largest) → Dec (largest ≡ largest-value) → Dec (Known largest)
+    go (yes e) f = yes (record { depth = OneByte; is = e })
+    go (no e) (yes f) = yes (record { depth = TwoBytes; is = f })
+    go (no e) (no f) = no (λ k. neither (k .depth) (k .is))
+      where
+        neither : (d : Depth) → ¬ (largest ≡ largestOf d)
+        neither OneByte g = e g
+        neither TwoBytes g = f g
+
+known-depth : {largest : ℕ} → Known largest → largest ≡ largestOf (depthOf largest)
+unfolding depthOf
+known-depth {largest} k = go (k .depth) (k .is)
+  where
+    go : (d : Depth) → largest ≡ largestOf d → largest ≡ largestOf (depthOf largest)
+    go OneByte e = e ∙ ap largestOf (sym (pick-yes (ℕ-discrete largest old-largest) _ _ e))
+    go TwoBytes e =
+        e ∙ ap largestOf (sym (pick-no (ℕ-discrete largest old-largest) _ _ (λ f. omega (arith, largest-is, old-largest-is))))
+
 -- What its numbers tell.
 module _ {file body : List ℕ} {w h largest lent n : ℕ} (b : Begins file w h largest body) (g : Gives (picture-judged w h largest lent (length body)) n) where
-  same : ¬ ¬ (largest ≡ largest-value) → Begins file w h largest-value body
-  same q = subst (λ (m : ℕ). Begins file w h m body) (holds (ℕ-discrete _ _) q) b
+  same : ¬ ¬ Known largest → Begins file w h (largestOf (depthOf largest)) body
+  same q = subst (λ (m : ℕ). Begins file w h m body) (known-depth (holds (known-dec largest) q)) b
 
   judged-fault : ¬ (n ≡ 0) → PictureFault file lent n
   judged-fault z = go g
     where
       go : Gives (picture-judged w h largest lent (length body)) n → PictureFault file lent n
       go (inl (p, e)) = no-sides w h largest body b p e
-      go (inr (p, inl (q, e))) = other-largest w h largest body b (sides-hold p) q e
-      go (inr (p, inr (q, inl (r, e)))) = other-sheet w h body (same q) (sides-hold p) r e
-      go (inr (p, inr (q, inr (r, inl (s, e))))) = ends-early w h body (same q) (sides-hold p) (holds (ℕ-discrete _ _) r) s e
-      go (inr (p, inr (q, inr (r, inr (s, inl (t, e)))))) = goes-on w h body (same q) (sides-hold p) (holds (ℕ-discrete _ _) r) t e
+      go (inr (p, inl (q, e))) = other-largest w h largest body b (sides-hold p) (λ d l. q (record { depth = d; is = l })) e
+      go (inr (p, inr (q, inl (r, e)))) = other-sheet (depthOf largest) w h body (same q) (sides-hold p) r e
+      go (inr (p, inr (q, inr (r, inl (s, e))))) = ends-early (depthOf largest) w h body (same q) (sides-hold p) (holds (ℕ-discrete _ _) r) s e
+      go (inr (p, inr (q, inr (r, inr (s, inl (t, e)))))) = goes-on (depthOf largest) w h body (same q) (sides-hold p) (holds (ℕ-discrete _ _) r) t e
       go (inr (p, inr (q, inr (r, inr (s, inr (t, e)))))) = absurd (z e)
 
   -- Nothing is refused: all is as it must be.
   pub record Sound : Type 0 where
-    pub begins : Begins file w h largest-value body
+    pub begins : Begins file w h (largestOf (depthOf largest)) body
     pub sides : Sides w h
     pub size : lent ≡ h * w
-    pub left : length body ≡ h * w
+    pub left : length body ≡ h * w * bytesOf (depthOf largest)
 
   pub judged-sound : n ≡ 0 → Sound
   judged-sound z = go g
@@ -141,12 +167,16 @@ module _ {file : List ℕ} {w h largest n : ℕ} (sheet : List ℕ) (at : ℕ) (
   pub read-sound : n ≡ 0 → Sound b told
   read-sound z = judged-sound b told z
 
-  pub read-done : {sheet′ : List ℕ} → n ≡ 0 → Turned w h (drop at file) sheet′ → ReadSheetCall file sheet sheet′ (record { refusal = success; width = w; height = h })
+  pub read-done : {sheet′ : List ℕ} → n ≡ 0 → Drawn (depthOf largest) w h (drop at file) sheet′ → ReadSheetCall file sheet sheet′ (record { refusal = success; width = w; height = h })
   read-done {sheet′} z t =
       let s = read-sound z in
       record {
         given = λ y. absurd (y refl);
         kept = λ y. absurd (y refl);
         refused = λ y. absurd (y refl);
-        done = λ y. record { picture = record { body = drop at file; begins = s .begins; sides = s .sides; size = s .left; turned = t }; size = s .size };
+        done = λ y.
+            record {
+              picture = record { depth = depthOf largest; body = drop at file; begins = s .begins; sides = s .sides; drawn = t };
+              size = s .size;
+            };
       }

@@ -2,10 +2,15 @@
 use mathlib.Core.Path.{_≡_}
 use mathlib.Core.List.{List, [], _∷_, _++_}
 use Prim.Native.Nat.{ℕ, _*_, _<_, _≤_}
+use native.Mathlib.Decide.{ℕ-discrete}
 use lib.ListN.{length, drop}
-use Rattle.field.specs.Map.{Sides, largest-value}
+use Rattle.field.specs.Map.{Sides, old-largest}
 use Rattle.field.specs.Refusals.{success, bad-size, bad-sheet, short-raster, long-raster, short-output, bad-largest}
 use Rattle.calls.specs.Rule.{Rule, rule}
+use Rattle.mapfile.specs.HeaderWorking.{pick}
+use Rattle.picturefile.specs.declared.Depth.{Depth}
+use Rattle.picturefile.specs.declared.Depth.the-variants.{OneByte, TwoBytes}
+use Rattle.picturefile.specs.Depths.{largestOf, bytesOf}
 use Rattle.picturefile.specs.Written.{PictureWritten}
 use Rattle.calls.specs.PictureCalls.{not-written}
 use Rattle.calls.specs.declared.SheetWritten.{SheetWritten}
@@ -21,12 +26,21 @@ pub data Puts (w h : ℕ) (sheet out out′ : List ℕ) (r : SheetWritten) : Typ
   whole : (file : List ℕ) → PictureWritten w h sheet file → length file ≤ length out → out′ ≡ file ++ drop (length file) out
       → r ≡ wrote (length file) → Puts w h sheet out out′ r
 
+-- A largest value is that of a kind of picture.
+pub record Known (largest : ℕ) : Type 0 where
+  pub depth : Depth
+  pub is : largest ≡ largestOf depth
+
+-- The kind, of a largest value that is known.
+unfoldable pub depthOf : ℕ → Depth
+depthOf largest = pick (ℕ-discrete largest old-largest) OneByte TwoBytes
+
 -- The rows of reading that numbers alone tell, in the order of the request.
 abbrev pub picture-judged : ℕ → ℕ → ℕ → ℕ → ℕ → List Rule
 picture-judged w h largest lent left =
     rule bad-size (¬ Sides w h)
-    ∷ rule bad-largest (¬ (largest ≡ largest-value))
+    ∷ rule bad-largest (¬ Known largest)
     ∷ rule bad-sheet (¬ (lent ≡ h * w))
-    ∷ rule short-raster (left < h * w)
-    ∷ rule long-raster (h * w < left)
+    ∷ rule short-raster (left < h * w * bytesOf (depthOf largest))
+    ∷ rule long-raster (h * w * bytesOf (depthOf largest) < left)
     ∷ []

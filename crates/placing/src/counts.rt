@@ -59,7 +59,7 @@ fn added(v: u8, sure: bool, m: u8) -> Placing
 }
 
 // Whether column x leaves the depot assured, where the row does; the row's test is made once.
-fn sure(level: bool, east: u8, west: u8, dx: usize, x: usize) -> bool
+fn sure(level: bool, east: u16, west: u16, dx: usize, x: usize) -> bool
     ensures { λ r. ⌜ r ≡ (level && axisOf east west dx x) ⌝ }
 {
     if level {
@@ -76,8 +76,8 @@ fn count_row<'a>(
     h: usize,
     y: usize,
     level: bool,
-    east: u8,
-    west: u8,
+    east: u16,
+    west: u16,
     dx: usize,
 ) -> Placing
     requires { ⌜ CountingRow w h (now s) (now g) y ⌝ }
@@ -102,7 +102,7 @@ pub fn count<'a>(
     h: usize,
     dx: usize,
     dy: usize,
-    d: &'a [u8; 4],
+    d: &'a [u16; 4],
 ) -> Placing
     requires { ⌜ Counting w h (now s) (now g) ⌝ }
     ensures { λ r. ⌜ r ≡ countOf (now (s .entry)) (now (g .entry)) w (now (d .entry)) dx dy h ⌝ }

@@ -4,7 +4,7 @@ use Prim.Native.Nat.{ℕ, _<_, _≤_}
 use Rattle.field.specs.declared.Marker.{Marker}
 use Rattle.field.specs.Map.{On, most-markers}
 
--- A count within its limits: "at most 4,096", and not "over the list lent".
+-- A count within its limits: "At most 4,096", with Req 07 8,192, and not "over the list lent".
 pub record Few (count lent : ℕ) : Type 0 where
   pub most : count ≤ most-markers
   pub within : count ≤ lent

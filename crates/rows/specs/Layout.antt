@@ -7,7 +7,7 @@ use Rattle.field.specs.Limits.{side-number, side-is}
 
 -- The words of the widest row, 64 crossings to a word.
 abbrev pub words : ℕ
-words = 1
+words = (side-number + 63) / 64
 
 -- No row is wider.
 pub words-enough : side-number ≤ 64 * words

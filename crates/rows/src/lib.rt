@@ -14,7 +14,7 @@ ghost use Rattle.rows.specs.Rows.{WidthAt, MaskAt};
 ghost use Rattle.rows.specs.Sheets.{Reading, ReadingRow, Drawing, Drawn, Putting, PuttingRow, PuttingWord, Wrote};
 
 // The words of the widest row: SIDE crossings, 64 to a word.
-pub const WORDS: usize = 1;
+pub const WORDS: usize = (field::SIDE + 63) / 64;
 
 // From a word to the word north of it.
 pub const STRIDE: usize = WORDS + 1;

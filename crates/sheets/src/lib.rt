@@ -8,7 +8,7 @@ ghost use Rattle.field.specs.Map.{Sides, at};
 ghost use Rattle.field.specs.Workings.Looking.{hopTo};
 ghost use Rattle.sheets.specs.Promise.{Placed, Numbered, Asked, Wiped};
 
-// "Width and height: 1 to 64 each."
+// "Width and height: 1 to 64 each", with Req 07 to 256.
 pub fn sized(w: usize, h: usize) -> bool
     ensures { λ r. ⌜ ((r ≡ true) ↔ Sides w h) ⌝ }
 {

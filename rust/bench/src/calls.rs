@@ -9,7 +9,8 @@ use grainbodkin_sys::{
 };
 use std::hint::black_box;
 
-/// A call by its name. Reading stands twice, once for each format.
+/// A call by its name. Reading a map stands twice, and so does reading a picture, once for each
+/// kind.
 #[derive(Clone, Copy, Debug, PartialEq, Eq)]
 pub enum Call {
     Label,
@@ -28,11 +29,12 @@ pub enum Call {
     ReadRaw,
     Write,
     ReadSheet,
+    ReadOldSheet,
     WriteSheet,
 }
 
 /// Every call with its name.
-pub const CALLS: [(&str, Call); 17] = [
+pub const CALLS: [(&str, Call); 18] = [
     ("label", Call::Label),
     ("measure", Call::Measure),
     ("distances", Call::Distances),
@@ -49,6 +51,7 @@ pub const CALLS: [(&str, Call); 17] = [
     ("read-p4", Call::ReadRaw),
     ("write", Call::Write),
     ("read-p5", Call::ReadSheet),
+    ("read-old", Call::ReadOldSheet),
     ("write-p5", Call::WriteSheet),
 ];
 
@@ -57,8 +60,9 @@ impl Call {
         CALLS.iter().find(|c| c.0 == name).map(|c| c.1)
     }
 
-    /// The maps over which the call is measured: sparse, dense, and those that are worst for it. The questions of which an end may be closed are asked
-    /// over `blocks` too, where much is closed and a drive is left.
+    /// The maps over which the call is measured: sparse, dense, and those that are worst for it.
+    /// The questions of which an end may be closed are asked over `blocks` too, where much is
+    /// closed and a drive is left.
     pub fn maps(self) -> &'static [&'static str] {
         match self {
             Call::Label => &crate::maps::NAMES,
@@ -71,7 +75,7 @@ impl Call {
             | Call::Check
             | Call::Lines
             | Call::LinesDrive => &["empty", "sparse", "dense", "blocks", "lattice-2"],
-            Call::ReadSheet | Call::WriteSheet => &["sparse"],
+            Call::ReadSheet | Call::ReadOldSheet | Call::WriteSheet => &["sparse"],
             _ => &["sparse", "dense", "full"],
         }
     }
@@ -147,7 +151,8 @@ pub fn look_again(input: &Input, room: &mut Room, times: usize) -> Answer {
     Answer::Refusal(again(times, measure))
 }
 
-/// One side's call, so many times over the same input into the same room, and the last answer. The room holds what the last call left.
+/// One side's call, so many times over the same input into the same room, and the last answer. The
+/// room holds what the last call left.
 #[inline(never)]
 pub fn repeat<L: Layer>(call: Call, input: &Input, room: &mut Room, times: usize) -> Answer {
     let (list, n) = (black_box(&input.list[..]), input.list.len());
@@ -171,6 +176,10 @@ pub fn repeat<L: Layer>(call: Call, input: &Input, room: &mut Room, times: usize
         Call::Lines | Call::LinesDrive => lines_again::<L>(call, input, room, times),
         Call::ReadSheet => {
             let read = || L::read_sheet(black_box(&input.picture), &mut room.east);
+            Answer::SheetRead(again(times, read))
+        }
+        Call::ReadOldSheet => {
+            let read = || L::read_sheet(black_box(&input.old_picture), &mut room.east);
             Answer::SheetRead(again(times, read))
         }
         Call::WriteSheet => {
@@ -259,7 +268,8 @@ fn lines_again<L: Layer>(call: Call, input: &Input, room: &mut Room, times: usiz
     Answer::Drove(again(times, drive))
 }
 
-/// Enters the map's first marker, before all others, into a list that it fills: every other marker moves.
+/// Enters the map's first marker, before all others, into a list that it fills: every other marker
+/// moves.
 pub fn enter_again<L: Listing>(input: &Input, room: &mut Room, times: usize) -> Answer {
     let (n, side) = (input.list.len(), black_box(input.side));
     let Marker { id, x, y } = black_box(input.list[0]);

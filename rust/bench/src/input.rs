@@ -18,9 +18,11 @@ pub struct Input {
     /// The map as a P1 file with a row a line, and as a P4 file.
     pub text: Vec<u8>,
     pub packed: Vec<u8>,
-    /// A sheet of bytes, and the same as a P5 picture.
-    pub sheet: Vec<u8>,
+    /// A sheet of numbers, and the same as a P5 picture; and an old picture, of one byte a
+    /// crossing.
+    pub sheet: Vec<u16>,
     pub picture: Vec<u8>,
+    pub old_picture: Vec<u8>,
     /// The ends of region and drive.
     pub s: Place,
     pub d: Place,
@@ -35,10 +37,11 @@ impl Input {
     /// The map of this name, or none where there is no such name.
     pub fn new(name: &str, side: usize) -> Option<Input> {
         let map = maps::rocks(name, side)?;
-        let sheet: Vec<u8> = (0..side * side).map(|i| (i * 37 % 251) as u8).collect();
+        let sheet: Vec<u16> = (0..side * side).map(|i| (i * 37 % 65_521) as u16).collect();
         let mut input = Input {
             side,
             picture: picture(&sheet, side),
+            old_picture: old_picture(&sheet, side),
             sheet,
             list: markers(&map, side),
             text: text(&map, side),
@@ -53,8 +56,9 @@ impl Input {
         Some(input)
     }
 
-    /// Chooses ends near opposite corners between which there is a shortest drive, and a home near a corner with the farthest place for which it is
-    /// assured. Where the places that are tried give none, the corners stay, and the questions are refused.
+    /// Chooses ends near opposite corners between which there is a shortest drive, and a home near
+    /// a corner with the farthest place for which it is assured. Where the places that are tried
+    /// give none, the corners stay, and the questions are refused.
     fn choose_places(&mut self) {
         let side = self.side;
         let mut labels = vec![0; side * side];
@@ -98,8 +102,8 @@ impl Input {
         route
     }
 
-    /// The open crossing farthest from an open home for which home is assured: both offsets are at most home's distances, or there
-    /// are none.
+    /// The open crossing farthest from an open home for which home is assured: both offsets are at
+    /// most home's distances, or there are none.
     fn farthest_assured(&self, home: Place, open: &[Place]) -> Place {
         let (list, n, side) = (&self.list, self.list.len(), self.side);
         let mut labels = vec![0; side * side];
@@ -156,9 +160,17 @@ fn packed(map: &[bool], side: usize) -> Vec<u8> {
     file
 }
 
-/// A sheet as a P5 picture.
-fn picture(sheet: &[u8], side: usize) -> Vec<u8> {
+/// A sheet as a P5 picture, two bytes a crossing.
+fn picture(sheet: &[u16], side: usize) -> Vec<u8> {
+    let mut file = format!("P5\n{side} {side}\n65535\n").into_bytes();
+    let rows = sheet.chunks(side).rev().flatten();
+    file.extend(rows.flat_map(|number| number.to_be_bytes()));
+    file
+}
+
+/// The low bytes of a sheet as an old P5 picture, one byte a crossing.
+fn old_picture(sheet: &[u16], side: usize) -> Vec<u8> {
     let mut file = format!("P5\n{side} {side}\n255\n").into_bytes();
-    file.extend(sheet.chunks(side).rev().flatten());
+    file.extend(sheet.chunks(side).rev().flatten().map(|&n| n as u8));
     file
 }

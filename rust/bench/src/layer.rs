@@ -40,10 +40,10 @@ pub trait Layer: Listing {
         w: usize,
         h: usize,
         labels: &mut [u8],
-        east: &mut [u8],
-        south: &mut [u8],
-        west: &mut [u8],
-        north: &mut [u8],
+        east: &mut [u16],
+        south: &mut [u16],
+        west: &mut [u16],
+        north: &mut [u16],
     ) -> u8;
 
     fn assured(
@@ -142,7 +142,7 @@ pub trait Layer: Listing {
 
     fn write(list: &[Marker], count: usize, w: usize, h: usize, out: &mut [u8]) -> WroteMap;
 
-    fn write_sheet(sheet: &[u8], w: usize, h: usize, out: &mut [u8]) -> SheetWritten;
+    fn write_sheet(sheet: &[u16], w: usize, h: usize, out: &mut [u8]) -> SheetWritten;
 
-    fn read_sheet(file: &[u8], sheet: &mut [u8]) -> SheetRead;
+    fn read_sheet(file: &[u8], sheet: &mut [u16]) -> SheetRead;
 }

@@ -1,5 +1,6 @@
-//! The library's side: each call hands its slices on as pointer and length. Rust's borrows see to it that what a call may write overlaps nothing else,
-//! so every `unsafe` below rests on the slices alone.
+//! The library's side: each call hands its slices on as pointer and length. Rust's borrows see to
+//! it that what a call may write overlaps nothing else, so every `unsafe` below rests on the slices
+//! alone.
 use crate::layer::{Layer, Listing};
 use grainbodkin_sys as sys;
 use sys::{
@@ -63,10 +64,10 @@ impl Layer for Library {
         w: usize,
         h: usize,
         labels: &mut [u8],
-        east: &mut [u8],
-        south: &mut [u8],
-        west: &mut [u8],
-        north: &mut [u8],
+        east: &mut [u16],
+        south: &mut [u16],
+        west: &mut [u16],
+        north: &mut [u16],
     ) -> u8 {
         unsafe {
             sys::bodkin_measure(
@@ -292,12 +293,12 @@ impl Layer for Library {
         unsafe { sys::bodkin_write(list.as_ptr(), list.len(), count, w, h, out.as_mut_ptr(), n) }
     }
 
-    fn write_sheet(sheet: &[u8], w: usize, h: usize, out: &mut [u8]) -> SheetWritten {
+    fn write_sheet(sheet: &[u16], w: usize, h: usize, out: &mut [u8]) -> SheetWritten {
         let n = out.len();
         unsafe { sys::bodkin_write_sheet(sheet.as_ptr(), sheet.len(), w, h, out.as_mut_ptr(), n) }
     }
 
-    fn read_sheet(file: &[u8], sheet: &mut [u8]) -> SheetRead {
+    fn read_sheet(file: &[u8], sheet: &mut [u16]) -> SheetRead {
         unsafe {
             sys::bodkin_read_sheet(file.as_ptr(), file.len(), sheet.as_mut_ptr(), sheet.len())
         }

@@ -1,14 +1,22 @@
-//! Benchmarks of the proved library beside plain safe Rust of the same method, same run, same input.
+//! Benchmarks of the proved library beside plain safe Rust of the same method, same run, same
+//! input.
 //!
-//!     bench                               asserts that both sides agree on every row, then prints each row's times and their ratio
-//!     bench rows                          the rows: call, side, map
-//!     bench one CALL SIDE MAP WHICH COUNT makes one side's call so many times, for a profile; WHICH is library, plain, or
-//!                                         another plain method: block, to enter and clear; stack, to label; looking, to measure
-//!     bench counted CALL...               makes each row's call once and nine times, on every side, with marks between, for a count of
-//!                                         instructions; of these calls alone where any are named
-//!     bench show MAP SIDE                 a map and its labels
-//!     bench depots PROGRAM                maps a second of the depots program's whole run beside plain Rust's
-//!     bench plain-depots                  that plain Rust: maps from standard input
+//!     bench
+//!         asserts that both sides agree on every row, then prints each row's times and their ratio
+//!     bench rows
+//!         the rows: call, side, map
+//!     bench one CALL SIDE MAP WHICH COUNT
+//!         makes one side's call so many times, for a profile; WHICH is library, plain, or another
+//!         plain method: block, to enter and clear; stack, to label; looking, to measure
+//!     bench counted CALL...
+//!         makes each row's call once and nine times, on every side, with marks between, for a
+//!         count of instructions; of these calls alone where any are named
+//!     bench show MAP SIDE
+//!         a map and its labels
+//!     bench depots PROGRAM
+//!         maps a second of the depots program's whole run beside plain Rust's
+//!     bench plain-depots
+//!         that plain Rust: maps from standard input
 // The calls take what document 01 lends them.
 #![allow(clippy::too_many_arguments)]
 
@@ -30,7 +38,11 @@ use plain::{Block, Plain};
 use room::Room;
 use std::process::ExitCode;
 
-const SIDES: [usize; 4] = [8, 16, 32, 64];
+const SIDES: [usize; 6] = [8, 16, 32, 64, 128, 256];
+
+/// Up to this side a call's other plain method is made too: past it looking from each crossing
+/// takes too long to be counted.
+const MOST_OTHER: usize = 64;
 
 fn main() -> ExitCode {
     let words: Vec<String> = std::env::args().skip(1).collect();
@@ -65,7 +77,7 @@ fn told(error: std::io::Error) {
 fn each_row(mut row: impl FnMut(&str, Call, usize, &str)) {
     for (name, call) in CALLS {
         for side in SIDES {
-            for map in call.maps() {
+            for map in call.maps().iter().filter(|map| maps::fits(map, side)) {
                 row(name, call, side, map);
             }
         }
@@ -80,7 +92,7 @@ fn rows() -> Option<()> {
 
 /// A side's length within the limit.
 fn side(word: &str) -> Option<usize> {
-    word.parse().ok().filter(|side| (1..=64).contains(side))
+    word.parse().ok().filter(|side| (1..=256).contains(side))
 }
 
 /// The table of times. Nothing is timed before both sides agreed on every row.
@@ -104,7 +116,7 @@ fn times() -> Option<()> {
     });
     println!("labelling crossing by crossing, ns");
     each_row(|_, call, side, map| {
-        if call == Call::Label {
+        if call == Call::Label && side <= MOST_OTHER {
             println!(
                 "{side:5}  {map:13}{:12.0}",
                 timing::stack(&input(map, side))
@@ -118,13 +130,14 @@ fn input(map: &str, side: usize) -> Input {
     Input::new(map, side).expect("a row names a map")
 }
 
-/// Asserts that both sides give the same answer and leave the same memory, and hands the answer back.
+/// Asserts that both sides give the same answer and leave the same memory, and hands the answer
+/// back.
 fn agree(name: &str, call: Call, input: &Input, map: &str) -> Answer {
     let (library, library_room) = after::<Library>(call, input);
     let (plain, plain_room) = after::<Plain>(call, input);
     assert_eq!(library, plain, "{name} {} {map}: answers", input.side);
     assert_eq!(library_room, plain_room, "{name} {} {map}", input.side);
-    if let Some((which, other)) = other(call) {
+    if let Some((which, other)) = other(call, input.side) {
         let mut room = Room::new(input);
         assert_eq!(
             (library, library_room),
@@ -139,9 +152,12 @@ fn agree(name: &str, call: Call, input: &Input, map: &str) -> Answer {
 /// A call so many times over, into a room.
 type Method = fn(&Input, &mut Room, usize) -> Answer;
 
-/// A call's other plain method and its name: block moves to enter and clear, a stack to label, looking from each crossing to measure. No other call
-/// has one.
-fn other(call: Call) -> Option<(&'static str, Method)> {
+/// A call's other plain method and its name: block moves to enter and clear, a stack to label,
+/// looking from each crossing to measure. No other call has one, and none on a large map.
+fn other(call: Call, side: usize) -> Option<(&'static str, Method)> {
+    if side > MOST_OTHER {
+        return None;
+    }
     match call {
         Call::Enter => Some(("block", enter_again::<Block>)),
         Call::Clear => Some(("block", clear_again::<Block>)),
@@ -163,7 +179,7 @@ fn made(call: Call, input: &Input, which: &str, count: usize) -> Option<Answer> 
         "library" => Some(repeat::<Library>(call, input, &mut room, count)),
         "plain" => Some(repeat::<Plain>(call, input, &mut room, count)),
         _ => {
-            let (_, other) = other(call).filter(|o| o.0 == which)?;
+            let (_, other) = other(call, input.side).filter(|o| o.0 == which)?;
             Some(other(input, &mut room, count))
         }
     }
@@ -183,7 +199,8 @@ pub extern "C" fn bench_mark(which: u64) {
     std::hint::black_box(which);
 }
 
-/// Every row's call on every side, once and then nine times, between marks: the difference is eight calls.
+/// Every row's call on every side, once and then nine times, between marks: the difference is eight
+/// calls.
 fn counted(calls: &[&str]) -> Option<()> {
     each_row(|name, call, side, map| {
         if !calls.is_empty() && !calls.contains(&name) {
@@ -192,7 +209,7 @@ fn counted(calls: &[&str]) -> Option<()> {
         let input = input(map, side);
         for which in ["library", "plain"]
             .into_iter()
-            .chain(other(call).map(|o| o.0))
+            .chain(other(call, side).map(|o| o.0))
         {
             made(call, &input, which, 1);
             bench_mark(0);

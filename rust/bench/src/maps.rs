@@ -1,4 +1,5 @@
 //! The maps that are measured, square, each by its name.
+use crate::plain::MOST_MARKERS;
 
 /// Every map's name.
 pub const NAMES: [&str; 12] = [
@@ -18,10 +19,13 @@ pub const NAMES: [&str; 12] = [
 
 /// The map of this name, `side` crossings a side: whether each crossing has a rock, by number.
 ///
-/// `sparse` and `dense` have 5 and 30 in a hundred crossings with a rock, drawn with a fixed seed. The lattices have single rocks with gaps of one and
-/// of two crossings between them; `blocks` has squares of four by four rocks with gaps of two, so that much is closed and nothing is shut. The spirals
-/// are a wall of rocks that winds inward, with an open corridor one and two crossings wide. `winding` has single rocks that wind outward, each two
-/// crossings off the rectangle that those before it close: that is worst for sweeps to the north and to the south.
+/// `sparse` and `dense` have 5 and 30 in a hundred crossings with a rock, drawn with a fixed seed;
+/// `full` has one on each crossing; of these no more than a list may hold, those of `full` from the
+/// south on. The lattices have single rocks with gaps of one and of two crossings between them;
+/// `blocks` has squares of four by four rocks with gaps of two, so that much is closed and nothing
+/// is shut. The spirals are a wall of rocks that winds inward, with an open corridor one and two
+/// crossings wide. `winding` has single rocks that wind outward, each two crossings off the
+/// rectangle that those before it close: that is worst for sweeps to the north and to the south.
 pub fn rocks(name: &str, side: usize) -> Option<Vec<bool>> {
     let each = |rock: fn(usize, usize) -> bool| {
         Some((0..side * side).map(|i| rock(i % side, i / side)).collect())
@@ -30,7 +34,7 @@ pub fn rocks(name: &str, side: usize) -> Option<Vec<bool>> {
         "empty" => each(|_, _| false),
         "sparse" => Some(drawn(side, 5, SEED)),
         "dense" => Some(drawn(side, 30, SEED)),
-        "full" => each(|_, _| true),
+        "full" => Some((0..side * side).map(|i| i < MOST_MARKERS).collect()),
         "diagonal" => each(|x, y| x == y),
         "chequerboard" => each(|x, y| (x + y) % 2 == 0),
         "lattice-1" => each(|x, y| x % 2 == 0 && y % 2 == 0),
@@ -43,10 +47,18 @@ pub fn rocks(name: &str, side: usize) -> Option<Vec<bool>> {
     }
 }
 
+/// Whether the map's rocks fit in a list. Those of other shapes than `full` and `dense` do not on
+/// every side.
+pub fn fits(name: &str, side: usize) -> bool {
+    let rocks = rocks(name, side).unwrap_or_default();
+    rocks.iter().filter(|&&rock| rock).count() <= MOST_MARKERS
+}
+
 /// The seed of the maps that are drawn once.
 const SEED: u64 = 0x9e37_79b9_7f4a_7c15;
 
-/// A map with so many in a hundred crossings with a rock, rounded up: the first crossings of a shuffle with this seed.
+/// A map with so many in a hundred crossings with a rock, rounded up, and no more than a list may
+/// hold: the first crossings of a shuffle with this seed.
 pub fn drawn(side: usize, hundredth: usize, seed: u64) -> Vec<bool> {
     let size = side * side;
     let mut order: Vec<usize> = (0..size).collect();
@@ -58,14 +70,16 @@ pub fn drawn(side: usize, hundredth: usize, seed: u64) -> Vec<bool> {
         order.swap(last, (state >> 33) as usize % (last + 1));
     }
     let mut map = vec![false; size];
-    for &i in &order[..(size * hundredth).div_ceil(100)] {
+    let rocks = (size * hundredth).div_ceil(100).min(MOST_MARKERS);
+    for &i in &order[..rocks] {
         map[i] = true;
     }
     map
 }
 
-/// A wall that starts in the south-west corner, goes round the map and winds inward, `corridor` open crossings between its turns. It is drawn leg by
-/// leg: the first three go along whole edges, and from then on each leg is a turn's pitch shorter than the last one along its axis.
+/// A wall that starts in the south-west corner, goes round the map and winds inward, `corridor`
+/// open crossings between its turns. It is drawn leg by leg: the first three go along whole edges,
+/// and from then on each leg is a turn's pitch shorter than the last one along its axis.
 fn spiral(side: usize, corridor: usize) -> Vec<bool> {
     let pitch = corridor as isize + 1;
     let mut map = vec![false; side * side];
@@ -90,8 +104,9 @@ fn spiral(side: usize, corridor: usize) -> Vec<bool> {
     map
 }
 
-/// Rocks wound outward from the middle. Each stands two crossings off one edge of the rectangle closed so far, at the corner that the rock before it
-/// added; so it is reached only once that one is, and each turn of the winding takes a sweep to the north and one to the south.
+/// Rocks wound outward from the middle. Each stands two crossings off one edge of the rectangle
+/// closed so far, at the corner that the rock before it added; so it is reached only once that one
+/// is, and each turn of the winding takes a sweep to the north and one to the south.
 fn winding(side: usize) -> Vec<bool> {
     let mut map = vec![false; side * side];
     let middle = side / 2;

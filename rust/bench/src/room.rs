@@ -10,10 +10,10 @@ const REACH: usize = 4096;
 pub struct Room {
     pub labels: Vec<u8>,
     pub region: Vec<u8>,
-    pub east: Vec<u8>,
-    pub south: Vec<u8>,
-    pub west: Vec<u8>,
-    pub north: Vec<u8>,
+    pub east: Vec<u16>,
+    pub south: Vec<u16>,
+    pub west: Vec<u16>,
+    pub north: Vec<u16>,
     pub route: Vec<u16>,
     pub state: u32,
     pub out: Vec<u8>,
@@ -41,9 +41,10 @@ impl Room {
     }
 }
 
-/// A list in a longer run of slots. Entering before all others moves every marker up by one, so the same list stands one slot higher again; clearing
-/// the first moves every other one down, so the same list stands one slot lower again once its first marker is put back there. So a call may be made
-/// again and again over the same list, and hardly anything is done between two calls.
+/// A list in a longer run of slots. Entering before all others moves every marker up by one, so the
+/// same list stands one slot higher again; clearing the first moves every other one down, so the
+/// same list stands one slot lower again once its first marker is put back there. So a call may be
+/// made again and again over the same list, and hardly anything is done between two calls.
 #[derive(Clone, Debug, PartialEq, Eq)]
 pub struct Window {
     slots: Vec<Marker>,

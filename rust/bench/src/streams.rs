@@ -1,5 +1,5 @@
-//! The depots program as it runs: streams of maps 64 by 64 from a file, its whole run beside plain
-//! Rust's.
+//! The depots program as it runs: streams of maps 64 by 64 and 256 by 256 from a file, its whole
+//! run beside plain Rust's.
 use crate::maps;
 use std::fs::File;
 use std::io::Result;
@@ -7,24 +7,23 @@ use std::path::Path;
 use std::process::{Command, Stdio};
 use std::time::Instant;
 
-/// Maps a stream.
-const MAPS: usize = 4000;
-
 /// Rounds of each side; the quickest counts.
 const ROUNDS: usize = 9;
 
-/// Streams by name, with so many in a hundred crossings with a rock, each map drawn anew.
+/// Streams by name, with so many in a hundred crossings with a rock and no more than a list may
+/// hold, each map drawn anew.
 const STREAMS: [(&str, usize); 4] = [("empty", 0), ("few", 1), ("sparse", 5), ("dense", 30)];
 
-const SIDE: usize = 64;
+/// A side, and so many maps of it a stream.
+const SIDES: [(usize, usize); 2] = [(64, 4000), (256, 250)];
 
 /// A stream's bytes.
-fn stream(hundredth: usize) -> Vec<u8> {
+fn stream(side: usize, maps: usize, hundredth: usize) -> Vec<u8> {
     let mut bytes = Vec::new();
-    for seed in 1..=MAPS as u64 {
-        bytes.extend(format!("P4\n{SIDE} {SIDE}\n").bytes());
-        let rocks = maps::drawn(SIDE, hundredth, seed);
-        let rows = rocks.chunks(SIDE).rev().flat_map(|row| row.chunks(8));
+    for seed in 1..=maps as u64 {
+        bytes.extend(format!("P4\n{side} {side}\n").bytes());
+        let rocks = maps::drawn(side, hundredth, seed);
+        let rows = rocks.chunks(side).rev().flat_map(|row| row.chunks(8));
         bytes.extend(rows.map(|eight| eight.iter().fold(0, |byte, &rock| byte << 1 | rock as u8)));
     }
     bytes
@@ -49,6 +48,16 @@ fn seconds(side: Side, input: &Path) -> Result<f64> {
     Ok(start.elapsed().as_secs_f64())
 }
 
+/// Seconds of the quickest run of each side.
+fn quickest(proved: Side, plain: Side, input: &Path) -> Result<(f64, f64)> {
+    let mut best = (f64::MAX, f64::MAX);
+    for _ in 0..ROUNDS {
+        best.0 = best.0.min(seconds(proved, input)?);
+        best.1 = best.1.min(seconds(plain, input)?);
+    }
+    Ok(best)
+}
+
 /// Prints maps a second of the program and of plain Rust over each stream, and their ratio of
 /// times. Both print the same text first.
 pub fn times(program: &str) -> Result<()> {
@@ -56,25 +65,23 @@ pub fn times(program: &str) -> Result<()> {
     let (proved, plain): (Side, Side) = ((Path::new(program), &[]), (&this, &["plain-depots"]));
     let input = std::env::temp_dir().join(format!("depots-{}.pbm", std::process::id()));
     println!(
-        "{:10}{:>8}{:>16}{:>16}{:>8}",
-        "stream", "maps", "maps/s program", "maps/s plain", "ratio"
+        "{:10}{:>6}{:>8}{:>16}{:>16}{:>8}",
+        "stream", "side", "maps", "maps/s program", "maps/s plain", "ratio"
     );
-    for (name, hundredth) in STREAMS {
-        std::fs::write(&input, stream(hundredth))?;
-        let text = |side| command(side, &input)?.output();
-        assert_eq!(text(proved)?.stdout, text(plain)?.stdout, "{name}: texts");
-        let mut best = (f64::MAX, f64::MAX);
-        for _ in 0..ROUNDS {
-            best.0 = best.0.min(seconds(proved, &input)?);
-            best.1 = best.1.min(seconds(plain, &input)?);
+    for (side, maps) in SIDES {
+        for (name, hundredth) in STREAMS {
+            std::fs::write(&input, stream(side, maps, hundredth))?;
+            let text = |side| command(side, &input)?.output();
+            assert_eq!(text(proved)?.stdout, text(plain)?.stdout, "{name}: texts");
+            let best = quickest(proved, plain, &input)?;
+            let a_second = |seconds: f64| maps as f64 / seconds;
+            println!(
+                "{name:10}{side:6}{maps:8}{:16.0}{:16.0}{:8.2}",
+                a_second(best.0),
+                a_second(best.1),
+                best.0 / best.1
+            );
         }
-        let a_second = |seconds: f64| MAPS as f64 / seconds;
-        println!(
-            "{name:10}{MAPS:8}{:16.0}{:16.0}{:8.2}",
-            a_second(best.0),
-            a_second(best.1),
-            best.0 / best.1
-        );
     }
     std::fs::remove_file(&input)
 }

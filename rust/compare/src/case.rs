@@ -115,10 +115,10 @@ pub struct Memory {
     pub list: Vec<Marker>,
     pub labels: Vec<u8>,
     /// East, south, west, north.
-    pub sheets: [Vec<u8>; 4],
+    pub sheets: [Vec<u16>; 4],
     pub region: Vec<u8>,
     /// The sheet of a picture.
-    pub picture: Vec<u8>,
+    pub picture: Vec<u16>,
     pub route: Vec<u16>,
     pub state: u32,
     /// A drawn list, which is only read.

@@ -23,15 +23,17 @@ const ONE_BY_ONE: usize = 4_000;
 const TOLD: u64 = 3;
 
 /// Everything that runs have to reach, beside the endings of streams.
-const KINDS: [&str; 18] = [
+const KINDS: [&str; 20] = [
     "end: sums",
     "end: refused 1",
+    "end: refused 7",
     "end: refused 12",
     "end: refused 13",
     "end: refused 14",
     "end: refused long, past the bytes of a map",
     "end: refused long, past the maps of a run",
     "end: refused after other maps",
+    "line: over 4,096 open crossings",
     "line: depot on a rock",
     "line: depot shut",
     "line: all assured",
@@ -133,6 +135,9 @@ fn line(depot: &Depot) -> &'static str {
 fn tally(kinds: &mut Kinds, input: &[u8], run: &Run, pieces: &Pieces) {
     for depot in run.maps.iter().flatten() {
         count(kinds, line(depot).to_string());
+        if depot.numbers[0] > 4_096 {
+            count(kinds, "line: over 4,096 open crossings".to_string());
+        }
     }
     let end = match run.end {
         End::Sums => "sums".to_string(),

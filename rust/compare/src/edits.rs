@@ -116,7 +116,15 @@ pub const EDITS: [Edit; 21] = [
         number.splice(0..0, vec![b'0'; zeros]);
     }),
     ("a side that no map has", |r, parts| {
-        let sides: [&[u8]; 6] = [b"0", b"000", b"65", b"256", b"065", b"999999999"];
+        let sides: [&[u8]; 7] = [
+            b"0",
+            b"000",
+            b"257",
+            b"512",
+            b"0257",
+            b"65536",
+            b"999999999",
+        ];
         let side = r.pick(&sides).to_vec();
         *number(r, parts) = side;
     }),

@@ -11,10 +11,10 @@ fn bad_side(random: &mut Random, side: usize) -> usize {
     random.pick(&[
         0,
         0,
-        65,
-        65,
-        66,
-        128,
+        257,
+        257,
+        258,
+        512,
         past(256),
         past(65_536),
         past(1 << 32),
@@ -35,20 +35,23 @@ pub const SIZE_HARMS: [Harm; 3] = [
     }),
 ];
 
-pub const SHEET_HARMS: [Harm; 5] = [
-    ("a sheet one byte short", |r, case| {
-        sheet(r, case).pop();
+pub const SHEET_HARMS: [Harm; 6] = [
+    ("a sheet one byte or number short", |r, case| {
+        resize(r, case, |_, length| length.saturating_sub(1));
     }),
-    ("a sheet one byte long", |r, case| sheet(r, case).push(0)),
-    ("a sheet empty", |r, case| sheet(r, case).clear()),
+    ("a sheet one byte or number long", |r, case| {
+        resize(r, case, |_, length| length + 1);
+    }),
+    ("a sheet empty", |r, case| resize(r, case, |_, _| 0)),
+    ("a sheet of half or twice the size", |r, case| {
+        resize(r, case, |r, length| r.pick(&[length / 2, 2 * length]));
+    }),
     ("a sheet of another size", |r, case| {
-        let length = r.below(200);
-        sheet(r, case).resize(length, 3);
+        resize(r, case, |r, _| r.below(200));
     }),
     ("every sheet wrong in its own way", |r, case| {
         for which in 0..case.call.sheets() {
-            let length = r.below(100);
-            nth_sheet(case, which).resize(length, 9);
+            resize_nth(case, which, |_| r.below(100));
         }
     }),
 ];
@@ -77,21 +80,26 @@ pub const PLACE_HARMS: [Harm; 4] = [
 /// How far off the map: a place that would be on it if it were cut to fewer bits, or as far as can
 /// be.
 fn far(random: &mut Random) -> usize {
-    random.pick(&[64, 256, 65_536, 1 << 32, usize::MAX])
+    random.pick(&[256, 512, 65_536, 1 << 32, usize::MAX])
 }
 
-/// One of the sheets that the call is lent.
-fn sheet<'a>(random: &mut Random, case: &'a mut Case) -> &'a mut Vec<u8> {
+/// Gives one of the sheets that the call is lent another length.
+fn resize(random: &mut Random, case: &mut Case, length: fn(&mut Random, usize) -> usize) {
     let which = random.below(case.call.sheets());
-    nth_sheet(case, which)
+    resize_nth(case, which, |before| length(random, before));
 }
 
-fn nth_sheet(case: &mut Case, which: usize) -> &mut Vec<u8> {
-    match (which, case.call) {
+/// Sheets of distances hold numbers, and the others bytes.
+fn resize_nth(case: &mut Case, which: usize, length: impl FnOnce(usize) -> usize) {
+    let bytes = match (which, case.call) {
         (0, _) => &mut case.before.labels,
-        (_, Call::Measure) => &mut case.before.sheets[which - 1],
+        (_, Call::Measure) => {
+            let sheet = &mut case.before.sheets[which - 1];
+            return sheet.resize(length(sheet.len()), 9);
+        }
         _ => &mut case.before.region,
-    }
+    };
+    bytes.resize(length(bytes.len()), 9);
 }
 
 /// One of the places that the call is asked about.

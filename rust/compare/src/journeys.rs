@@ -1,9 +1,11 @@
-//! Carts that are sent home on the compiled library: random maps, an assured place, and at each hop any crossing that the answer names. A cart must be
-//! home after exactly the east-west plus north-south distance, on open crossings only.
+//! Carts that are sent home on the compiled library: random maps, an assured place, and at each hop
+//! any crossing that the answer names. A cart must be home after exactly the east-west plus
+//! north-south distance, on open crossings only.
 use crate::maps;
 use crate::random::Random;
 use grainbodkin_sys::{self as sys, Marker};
 use independent::map::{Crossing, Map};
+use independent::markers::MOST;
 
 /// So many pairs of a home and a place are asked about.
 const PAIRS: u64 = 20_000;
@@ -58,7 +60,7 @@ impl Asked {
         };
         Asked {
             map,
-            list: rocks.iter().enumerate().map(marker).collect(),
+            list: rocks.iter().enumerate().take(MOST).map(marker).collect(),
             labels: vec![0; map.width * map.height],
         }
     }
@@ -141,7 +143,8 @@ impl Asked {
         }
     }
 
-    /// Whether an offset equals home's distance that way, and so document 01's first rule would have said no.
+    /// Whether an offset equals home's distance that way, and so document 01's first rule would
+    /// have said no.
     fn at_the_distance(&mut self, home: Crossing, place: Crossing) -> bool {
         let [east, south, west, north] = self.four(home);
         let row = if place.x > home.x { east } else { west };

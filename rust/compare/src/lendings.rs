@@ -8,9 +8,9 @@ use independent::markers::Marker;
 pub struct Lendings {
     pub list: Lent<sys::Marker>,
     pub labels: Lent<u8>,
-    pub sheets: [Lent<u8>; 4],
+    pub sheets: [Lent<u16>; 4],
     pub region: Lent<u8>,
-    pub picture: Lent<u8>,
+    pub picture: Lent<u16>,
     pub route: Lent<u16>,
     pub state: Lent<u32>,
     pub drawn: Lent<u16>,
@@ -21,6 +21,7 @@ pub struct Lendings {
 impl Lendings {
     pub fn new(before: &Memory) -> Lendings {
         let bytes = |content: &[u8]| Lent::new(content.iter().copied());
+        let numbers = |content: &[u16]| Lent::new(content.iter().copied());
         let there = |m: &Marker| sys::Marker {
             id: m.id,
             x: m.x,
@@ -29,12 +30,12 @@ impl Lendings {
         Lendings {
             list: Lent::new(before.list.iter().map(there)),
             labels: bytes(&before.labels),
-            sheets: std::array::from_fn(|way| bytes(&before.sheets[way])),
+            sheets: std::array::from_fn(|way| numbers(&before.sheets[way])),
             region: bytes(&before.region),
-            picture: bytes(&before.picture),
-            route: Lent::new(before.route.iter().copied()),
+            picture: numbers(&before.picture),
+            route: numbers(&before.route),
             state: Lent::new([before.state].into_iter()),
-            drawn: Lent::new(before.drawn.iter().copied()),
+            drawn: numbers(&before.drawn),
             file: bytes(&before.file),
             out: bytes(&before.out),
         }

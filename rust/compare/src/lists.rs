@@ -23,7 +23,7 @@ pub fn lend(random: &mut Random, case: &mut Case, rocks: &[Crossing]) {
         while places.len() < room {
             places.push(random.pick(&places));
         }
-        case.notes.push("near or at 4,096 markers");
+        case.notes.push("near or at 8,192 markers");
     }
     places.truncate(MOST);
     for i in (1..places.len()).rev() {
@@ -41,7 +41,7 @@ pub fn lend(random: &mut Random, case: &mut Case, rocks: &[Crossing]) {
 pub fn noise(random: &mut Random, slots: usize) -> Vec<Marker> {
     let any = |r: &mut Random| match r.below(3) {
         0 => Marker::default(),
-        1 => marker(r.word(), r.below(64), r.below(64)),
+        1 => marker(r.word(), r.below(SIDE), r.below(SIDE)),
         _ => marker(r.word(), r.word().into(), r.word().into()),
     };
     (0..slots).map(|_| any(random)).collect()
@@ -75,18 +75,18 @@ fn marker(id: u16, x: usize, y: usize) -> Marker {
 
 /// How far off the map: a marker that would be on it if it were cut to eight bits, or as far as can
 /// be.
-const FAR: [u16; 5] = [64, 0x100, 0x4000, 0x8000, u16::MAX];
+const FAR: [u16; 5] = [0x100, 0x200, 0x4000, 0x8000, u16::MAX];
 
 /// The ways to harm a list: each makes it one that refusal 3 is for.
 pub const LIST_HARMS: [Harm; 13] = [
     ("count one over the list", |_, case| {
         case.count = case.before.list.len() + 1;
     }),
-    ("count over 4,096, not over the list", |r, case| {
+    ("count over 8,192, not over the list", |r, case| {
         long(r, case);
         case.count = r.between(MOST + 1, case.before.list.len());
     }),
-    ("count over 4,096 and over the list", |r, case| {
+    ("count over 8,192 and over the list", |r, case| {
         case.count = case.before.list.len().max(MOST) + r.between(1, 9);
     }),
     ("count huge", |r, case| {

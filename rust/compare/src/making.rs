@@ -84,7 +84,7 @@ fn picture_case(random: &mut Random, call: Call) -> Case {
         } else {
             about(random, &mut case, crossings)
         };
-        case.before.picture = random.bytes(length);
+        case.before.picture = random.words(length);
         return case;
     }
     let length = if random.percent(80) {
@@ -92,9 +92,8 @@ fn picture_case(random: &mut Random, call: Call) -> Case {
     } else {
         about(random, &mut case, crossings)
     };
-    case.before.picture = random.bytes(length);
-    let digits = |side: usize| if side < 10 { 1 } else { 2 };
-    let needed = 9 + digits(map.width) + digits(map.height) + crossings;
+    case.before.picture = random.words(length);
+    let needed = 11 + digits(map) + 2 * crossings;
     let length = about(random, &mut case, needed);
     case.before.out = random.bytes(length);
     if random.percent(10) {
@@ -116,12 +115,12 @@ fn lend_buffers(random: &mut Random, case: &mut Case) {
         case.before.region = random.bytes(crossings);
     }
     if case.call == Call::Measure {
-        case.before.sheets = std::array::from_fn(|_| random.bytes(crossings));
+        case.before.sheets = std::array::from_fn(|_| random.words(crossings));
     }
     if matches!(case.call, Call::Drive | Call::LinesDrive) {
         let needed = case.places[0].distance(case.places[1]) + 1;
         let length = about(random, case, needed);
-        case.before.route = (0..length).map(|_| random.word()).collect();
+        case.before.route = random.words(length);
         let any = random.next() as u32;
         case.before.state = random.pick(&[0, 1, u32::MAX, any, any, any]);
     }
@@ -131,12 +130,15 @@ fn lend_buffers(random: &mut Random, case: &mut Case) {
         case.before.drawn = drawn;
     }
     if case.call == Call::Write {
-        let digits = |side: usize| if side < 10 { 1 } else { 2 };
-        let header = 5 + digits(case.map.width) + digits(case.map.height);
-        let needed = header + case.map.width.div_ceil(8) * case.map.height;
+        let needed = 5 + digits(case.map) + case.map.width.div_ceil(8) * case.map.height;
         let length = about(random, case, needed);
         case.before.out = random.bytes(length);
     }
+}
+
+/// How many digits width and height have together.
+fn digits(map: Map) -> usize {
+    map.width.to_string().len() + map.height.to_string().len()
 }
 
 /// A length for a buffer that needs so many elements.

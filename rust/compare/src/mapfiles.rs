@@ -2,7 +2,8 @@
 //! and noise.
 use crate::maps;
 use crate::random::Random;
-use independent::map::{Crossing, Map};
+use independent::map::{Crossing, Map, SIDE};
+use independent::markers::MOST;
 
 /// A file in its parts.
 #[derive(Clone, Debug, Default)]
@@ -163,8 +164,13 @@ pub fn file(random: &mut Random) -> (Vec<&'static str>, Vec<u8>, usize) {
         let (name, make) = random.pick(&NOISES);
         return (vec![name], make(random), 2);
     }
-    let (size, map) = maps::size(random);
-    let (shape, rocks) = maps::rocks(random, map);
+    let (size, shape, map, rocks) = if random.percent(1) {
+        many_rocks(random)
+    } else {
+        let (size, map) = maps::size(random);
+        let (shape, rocks) = maps::rocks(random, map);
+        (size, shape, map, rocks)
+    };
     let mut parts = parts(random, map, &rocks);
     let kind = if parts.plain {
         "plain file"
@@ -186,6 +192,18 @@ pub fn file(random: &mut Random) -> (Vec<&'static str>, Vec<u8>, usize) {
         notes.push(name);
     }
     (notes, bytes, parts.rocks)
+}
+
+/// A map with about as many rocks as a list may hold, or with many more.
+fn many_rocks(random: &mut Random) -> (&'static str, &'static str, Map, Vec<Crossing>) {
+    let map = Map::new(SIDE, random.between(60, SIDE));
+    let mut rocks: Vec<_> = map.crossings().collect();
+    for i in (1..rocks.len()).rev() {
+        rocks.swap(i, random.below(i + 1));
+    }
+    let any = random.between(MOST, rocks.len());
+    rocks.truncate(random.pick(&[MOST - 1, MOST, MOST, MOST + 1, MOST + 1, any]));
+    ("256 by many", "about 8,192 rocks or more", map, rocks)
 }
 
 /// Noise by its name.

@@ -5,33 +5,51 @@ use independent::map::{Crossing, Map, SIDE};
 /// A size: how it is made.
 type Size = Weighted<fn(&mut Random) -> Map>;
 
-pub const SIZES: [Size; 8] = [
-    ("1 by 1", 10, |_| Map::new(1, 1)),
-    ("up to 8 by 8", 680, |r| {
+/// Most maps are small. Those over 64 by 64 are few, for the independent program takes its time
+/// over them; those near a multiple of 64 wide, where a row of bits goes on in another word, are
+/// flat.
+pub const SIZES: [Size; 11] = [
+    ("1 by 1", 40, |_| Map::new(1, 1)),
+    ("up to 8 by 8", 2580, |r| {
         Map::new(r.between(1, 8), r.between(1, 8))
     }),
-    ("up to 16 by 16", 170, |r| {
+    ("up to 16 by 16", 680, |r| {
         Map::new(r.between(1, 16), r.between(1, 16))
     }),
-    ("1 by n", 40, |r| Map::new(1, r.between(1, SIDE))),
-    ("n by 1", 40, |r| Map::new(r.between(1, SIDE), 1)),
-    ("up to 64 by 64", 30, |r| {
+    ("1 by n", 120, |r| Map::new(1, r.between(1, SIDE))),
+    ("n by 1", 120, |r| Map::new(r.between(1, SIDE), 1)),
+    ("one side of 256, the other up to 4", 80, |r| {
+        let other = r.between(1, 4);
+        r.pick(&[Map::new(SIDE, other), Map::new(other, SIDE)])
+    }),
+    ("near a multiple of 64 wide", 120, |r| {
+        let width = 64 * r.between(1, 4) + r.below(3) - 1;
+        Map::new(width.min(SIDE), r.between(1, 12))
+    }),
+    ("up to 64 by 64", 200, |r| {
+        Map::new(r.between(1, 64), r.between(1, 64))
+    }),
+    ("up to 256 by 256", 30, |r| {
         Map::new(r.between(1, SIDE), r.between(1, SIDE))
     }),
-    ("near 64 by 64", 15, |r| {
+    ("near 256 by 256", 15, |r| {
         Map::new(r.between(SIDE - 2, SIDE), r.between(SIDE - 2, SIDE))
     }),
-    ("64 by 64", 15, |_| Map::new(SIDE, SIDE)),
+    ("256 by 256", 15, |_| Map::new(SIDE, SIDE)),
 ];
 
 /// A shape: the rocks that it has on a map.
 type Shape = Weighted<fn(&mut Random, Map) -> Vec<Crossing>>;
 
-pub const SHAPES: [Shape; 14] = [
+pub const SHAPES: [Shape; 15] = [
     ("no rocks", 1, |_, _| Vec::new()),
     ("few rocks", 4, |r, map| {
         let rocks = r.between(1, 4);
         (0..rocks).map(|_| any(r, map)).collect()
+    }),
+    ("a rock in a corner", 2, |r, map| {
+        let x = r.pick(&[0, map.width - 1]);
+        vec![Crossing::new(x, r.pick(&[0, map.height - 1]))]
     }),
     ("sparse", 4, |r, map| by_chance(r, map, 1, 8)),
     ("middling", 2, |r, map| by_chance(r, map, 8, 25)),
@@ -108,7 +126,7 @@ fn loosened(random: &mut Random, map: Map) -> Vec<Crossing> {
 
 /// Diagonals at equal steps, rising or falling, whole or with holes.
 fn diagonals(random: &mut Random, map: Map) -> Vec<Crossing> {
-    let (step, at) = (random.between(2, 70), random.below(70));
+    let (step, at) = (random.between(2, 300), random.below(300));
     let rising = random.percent(50);
     let mut rocks = keep(map, |c| {
         let across = if rising { c.x + SIDE - c.y } else { c.x + c.y };

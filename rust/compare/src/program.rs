@@ -24,7 +24,7 @@ pub struct Runs {
 /// An input by its name.
 type Input = (&'static str, fn(&mut Random) -> Vec<u8>);
 
-const INPUTS: [Input; 14] = [
+const INPUTS: [Input; 19] = [
     ("empty input", |_| Vec::new()),
     ("the example", |_| b"P1\n4 3\n0010\n0100\n0000\n".to_vec()),
     ("65,536 bytes, a map", |_| padded(LONGEST)),
@@ -51,7 +51,29 @@ const INPUTS: [Input; 14] = [
         let sparse: Vec<u8> = (0..512).map(|_| r.byte() & r.byte() & r.byte()).collect();
         [&b"P4\n64 64\n"[..], &sparse].concat()
     }),
+    ("256 by 256, full", |_| whole(65_536)),
+    ("256 by 256, 8,192 rocks", |_| whole(8_192)),
+    ("256 by 256, 8,193 rocks", |_| whole(8_193)),
+    ("256 by 256, full, and a byte less", |_| {
+        let mut bytes = whole(65_536);
+        bytes.pop();
+        bytes
+    }),
+    ("256 by 256, plain", |_| {
+        let row = format!("{}\n", "0".repeat(256));
+        format!("P1\n256 256\n{}", row.repeat(256)).into_bytes()
+    }),
 ];
+
+/// A raw map 256 by 256 whose first so many crossings in raster order are rocks.
+pub fn whole(rocks: usize) -> Vec<u8> {
+    let mut bytes = b"P4 256 256 ".to_vec();
+    for first in (0..65_536).step_by(8) {
+        let here = rocks.saturating_sub(first).min(8);
+        bytes.push((0xFF00u16 >> here) as u8);
+    }
+    bytes
+}
 
 /// A plain map with blanks after it, so many bytes long.
 fn padded(length: usize) -> Vec<u8> {
@@ -99,6 +121,7 @@ pub fn compare(path: &Path, seed: u64) -> Runs {
     for kind in [
         "labels",
         "refused 1",
+        "refused 7",
         "refused 12",
         "refused 13",
         "refused 14",

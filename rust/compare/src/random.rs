@@ -70,4 +70,8 @@ impl Random {
     pub fn word(&mut self) -> u16 {
         self.next() as u16
     }
+
+    pub fn words(&mut self, length: usize) -> Vec<u16> {
+        (0..length).map(|_| self.word()).collect()
+    }
 }

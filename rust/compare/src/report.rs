@@ -1,6 +1,7 @@
 //! What is said of a difference: the case in full, so that it can be read, and how to make it
 //! again.
 use crate::case::{After, Call, Case};
+use independent::labels::rocks;
 use independent::map::Crossing;
 use std::fmt::{Debug, Write};
 
@@ -64,7 +65,7 @@ fn buffer<T: PartialEq + Debug>(name: &str, want: &[T], got: &[T]) -> Option<Str
 const SLOTS: usize = 40;
 
 /// So many numbers of a drawn list are told; no shortest drive has more.
-const DRAWN: usize = 127;
+const DRAWN: usize = 511;
 
 /// Bytes as they may be printed; of many, those at both ends.
 pub fn shortened(bytes: &[u8]) -> String {
@@ -134,11 +135,10 @@ fn drawn(case: &Case) -> String {
     if case.map.bad_size() || case.count > case.before.list.len() {
         return text;
     }
-    let used = &case.before.list[..case.count];
+    let rocks = rocks(&case.before.list[..case.count]);
     for y in (0..case.map.height).rev() {
         let row = (0..case.map.width).map(|x| {
-            let here = Crossing::new(x, y);
-            if used.iter().any(|m| m.crossing() == here) {
+            if rocks.contains(&Crossing::new(x, y)) {
                 '#'
             } else {
                 '.'

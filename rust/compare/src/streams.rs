@@ -2,6 +2,7 @@
 use crate::edits::{BYTE_EDITS, EDITS};
 use crate::mapfiles::{parts_as, Parts, BLANKS, NOISES};
 use crate::maps;
+use crate::program::whole;
 use crate::random::{Random, Weighted};
 use independent::map::{Map, SIDE};
 use independent::text::LONGEST;
@@ -10,7 +11,7 @@ use independent::text::LONGEST;
 pub type Input = (&'static str, fn(&mut Random) -> Vec<u8>);
 
 /// Inputs of their own, each given whole and in pieces.
-pub const INPUTS: [Input; 26] = [
+pub const INPUTS: [Input; 31] = [
     ("no bytes", |_| Vec::new()),
     ("one LF", |_| b"\n".to_vec()),
     ("one P", |_| b"P".to_vec()),
@@ -47,9 +48,31 @@ pub const INPUTS: [Input; 26] = [
     ("64 by 64, packed", |r| {
         let mut maps = Vec::new();
         for _ in 0..130 {
-            maps.extend(map(r, Map::new(SIDE, SIDE)).join());
+            maps.extend(map(r, Map::new(64, 64)).join());
         }
         maps
+    }),
+    ("256 by 256, packed", |r| {
+        let mut maps = Vec::new();
+        for _ in 0..12 {
+            let few: Vec<_> = (0..r.below(600))
+                .map(|_| maps::any(r, Map::new(SIDE, SIDE)))
+                .collect();
+            maps.extend(parts_as(r, Map::new(SIDE, SIDE), &few, false).join());
+        }
+        maps
+    }),
+    ("8,192 rocks, and another map", |_| {
+        [whole(8_192), b"P4 2 2 \0\0".to_vec()].concat()
+    }),
+    ("a map, 8,193 rocks, and another map", |_| {
+        [b"P4 2 2 \0\0".to_vec(), whole(8_193), whole(0)].concat()
+    }),
+    ("a full map, and bytes that are no map", |_| {
+        [whole(65_536), b"x".to_vec()].concat()
+    }),
+    ("a full map, but for a byte", |_| {
+        whole(65_536)[..8_202].to_vec()
     }),
 ];
 
@@ -117,7 +140,7 @@ fn lengthen(random: &mut Random, parts: &mut Parts, more: usize) {
 /// A way for a stream to end.
 type Ending = Weighted<fn(&mut Random) -> Vec<u8>>;
 
-pub const ENDINGS: [Ending; 8] = [
+pub const ENDINGS: [Ending; 9] = [
     ("ends with its last map", 30, |_| Vec::new()),
     ("ends with a damaged map", 30, damaged),
     ("goes on after a damaged map", 25, |r| {
@@ -131,6 +154,10 @@ pub const ENDINGS: [Ending; 8] = [
         let mut bytes = any_map(r, 0).join();
         bytes.truncate(r.below(bytes.len()));
         bytes
+    }),
+    ("has a map of about 8,192 rocks", 5, |r| {
+        let rocks = r.between(8_190, 8_195);
+        [whole(rocks), any_map(r, 0).join()].concat()
     }),
     ("ends with noise", 10, |r| {
         let (_, make) = r.pick(&NOISES);

@@ -3,9 +3,10 @@
 use crate::case::{After, Call, Case, CALLS};
 use crate::{drawings, edits, harms, lists, making, mapfiles, maps, picturefiles, places};
 use independent::asking::Labelled;
-use independent::distances::is_assured;
+use independent::distances::{is_assured, NONE};
 use independent::drives::region_of;
 use independent::lines::lines_of;
+use independent::markers::MOST;
 use std::collections::BTreeMap;
 
 /// Refusal numbers go to this.
@@ -114,14 +115,40 @@ fn kinds(case: &Case, after: &After) -> Option<&'static str> {
         (Call::LinesDrive, 0, _) => Some(by_way(case)),
         (Call::LinesDrive, 19, _) if short(case) => Some("answered: 19 before 10"),
         (Call::Drive, 0, 1) => Some("answered: a drive of no hops"),
+        (Call::Drive, 0, 301..) => Some("answered: a drive of 300 hops or more"),
         (Call::Drive, 0, 61..) => Some("answered: a drive of 60 hops or more"),
+        (Call::Measure, 0, _) => longest(&after.memory.sheets),
+        (Call::Label, 0, _) => many(&after.answer),
         (Call::Check, 0, reason) => Some(found(reason, after.answer[1].1, case.before.drawn.len())),
         (Call::Enter, 7, _) if case.count < case.before.list.len() => {
             Some("answered: no slot by the limit, though the list has one")
         }
+        (Call::Read, 7, _) if case.before.list.len() > MOST => {
+            Some("answered: a file's rocks over the limit, though the list is longer")
+        }
         _ => None,
     }
 }
+
+/// The kind of the longest distance in four sheets, where it is long.
+fn longest(sheets: &[Vec<u16>; 4]) -> Option<&'static str> {
+    let numbers = sheets.iter().flatten().filter(|&&n| n != NONE);
+    match numbers.max() {
+        Some(255) => Some("answered: a distance of 255"),
+        Some(64..) => Some("answered: a distance of 64 or more"),
+        _ => None,
+    }
+}
+
+/// Whether a labelling's closed crossings are more than a map 64 by 64 has crossings.
+fn many(answer: &[(&'static str, usize)]) -> Option<&'static str> {
+    match answer[..] {
+        [(_, rocks), (_, shut), _] if rocks + shut > 4_096 => Some(MANY_CLOSED),
+        _ => None,
+    }
+}
+
+const MANY_CLOSED: &str = "answered: over 4,096 closed crossings";
 
 /// Pairs of open places by the two tests: "Either test may say yes where the other says no."
 const TESTS: [&str; 5] = [
@@ -201,10 +228,13 @@ fn found(reason: usize, position: usize, length: usize) -> &'static str {
 fn names() -> Vec<&'static str> {
     let mut names = vec![
         "several markers on one crossing",
-        "near or at 4,096 markers",
+        "near or at 8,192 markers",
+        "256 by many",
+        "about 8,192 rocks or more",
         "plain file",
         "raw file",
-        "picture",
+        picturefiles::OLD,
+        picturefiles::NEW,
         "pad bits of noise",
         "answered: not assured",
         "answered: assured",
@@ -213,7 +243,12 @@ fn names() -> Vec<&'static str> {
         "answered: two hops",
         "answered: a drive of no hops",
         "answered: a drive of 60 hops or more",
+        "answered: a drive of 300 hops or more",
+        "answered: a distance of 64 or more",
+        "answered: a distance of 255",
+        MANY_CLOSED,
         "answered: no slot by the limit, though the list has one",
+        "answered: a file's rocks over the limit, though the list is longer",
         "a list of no slots",
     ];
     names.extend([

@@ -1,5 +1,5 @@
-//! The sixteen calls of the proved static library, as `include/grainbodkin.h` declares them. A slice
-//! goes as pointer and length.
+//! The sixteen calls of the proved static library, as `include/grainbodkin.h` declares them. A
+//! slice goes as pointer and length, which counts elements.
 //!
 //! A pointer is not null, even where its length is 0; it is aligned for its type and points to as
 //! many elements as its length says; what a call may write overlaps nothing else that is lent to
@@ -9,7 +9,7 @@
 #![no_std]
 
 /// The most bytes of stack that a call is held to below its caller, as the header's `BODKIN_STACK`.
-pub const STACK: usize = 7_168;
+pub const STACK: usize = 70_656;
 
 /// A rock marker: an id, 1 to 65,535, and a crossing.
 #[repr(C)]
@@ -43,7 +43,7 @@ pub struct Labelling {
 #[derive(Clone, Copy, Debug, PartialEq, Eq)]
 pub struct Four {
     pub refusal: u8,
-    pub four: [u8; 4],
+    pub four: [u16; 4],
 }
 
 /// Whether home is assured, or the refusal.
@@ -182,13 +182,13 @@ extern "C" {
         height: usize,
         labels: *mut u8,
         labels_len: usize,
-        east: *mut u8,
+        east: *mut u16,
         east_len: usize,
-        south: *mut u8,
+        south: *mut u16,
         south_len: usize,
-        west: *mut u8,
+        west: *mut u16,
         west_len: usize,
-        north: *mut u8,
+        north: *mut u16,
         north_len: usize,
     ) -> u8;
 
@@ -318,7 +318,7 @@ extern "C" {
     ) -> WroteMap;
 
     pub fn bodkin_write_sheet(
-        sheet: *const u8,
+        sheet: *const u16,
         sheet_len: usize,
         width: usize,
         height: usize,
@@ -329,7 +329,7 @@ extern "C" {
     pub fn bodkin_read_sheet(
         file: *const u8,
         file_len: usize,
-        sheet: *mut u8,
+        sheet: *mut u16,
         sheet_len: usize,
     ) -> SheetRead;
 }

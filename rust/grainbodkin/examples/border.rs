@@ -2,7 +2,8 @@
 //! name, offset and size; the limits; and every refusal and reason in words. tests/border/layout.c
 //! prints the same of C; tests/border/run compares the two.
 use grainbodkin::{
-    Map, Reason, Refusal, LARGEST, LONGEST_FILE, LONGEST_PICTURE, MARKERS, NO_DISTANCE, SIDE, STACK,
+    Map, Reason, Refusal, LARGEST, LONGEST_FILE, LONGEST_PICTURE, MARKERS, NO_DISTANCE,
+    OLD_LARGEST, SIDE, STACK,
 };
 use grainbodkin_sys::{
     Assurance, Checked, Counted, CrossingLines, Drove, Four, Homeward, Labelling, Marker, ReadMap,
@@ -126,7 +127,8 @@ fn main() {
     let largest = Map::new(SIDE, SIDE).expect("the largest map");
     println!("side {SIDE}\nmarkers {MARKERS}\nno distance {NO_DISTANCE}");
     println!("crossings {}\nroute {}", largest.crossings(), 2 * SIDE - 1);
-    println!("file {LONGEST_FILE}\npicture {LONGEST_PICTURE}\nlargest {LARGEST}\nstack {STACK}");
+    println!("file {LONGEST_FILE}\npicture {LONGEST_PICTURE}\nlargest {LARGEST}");
+    println!("old largest {OLD_LARGEST}\nstack {STACK}");
     for refusal in Refusal::ALL {
         println!("{refusal}");
     }

@@ -59,7 +59,7 @@ impl Markers {
     /// Passes a refusal of the library on. A list, map and sheet of this type are never at fault,
     /// so that none of 1, 2 and 3 is given.
     pub fn measure(&self) -> Result<Distances, Refusal> {
-        let mut sheets = [self.sheet(), self.sheet(), self.sheet(), self.sheet()];
+        let mut sheets = [0; 4].map(|zero| vec![zero; self.map().crossings()]);
         let [east, south, west, north] = &mut sheets;
         self.lend()
             .measure(&mut self.sheet(), east, south, west, north)?;
@@ -148,7 +148,8 @@ impl Markers {
     /// ```
     /// use grainbodkin::{Chooser, Map, Markers, Place, Refusal};
     ///
-    /// // On a map 1 by 1 without rocks, (0,0) to itself is a drive of one crossing; with a rock it is refused.
+    /// // On a map 1 by 1 without rocks, (0,0) to itself is a drive of one crossing; with a rock
+    /// // it is refused.
     /// let mut markers = Markers::new(Map::new(1, 1)?, 1);
     /// let here = Place::new(0, 0);
     /// let (mut route, mut chooser) = ([9, 9], Chooser(7));
@@ -172,9 +173,10 @@ impl Markers {
             .drive(s, d, &mut labels, &mut region, route, chooser)
     }
 
-    /// What is found of a drive that was drawn by hand, a list of crossing numbers: accepted exactly
-    /// if it is a shortest drive from s to d, otherwise the position of the first crossing at fault
-    /// and why. Every [`Drive`] is accepted over the same markers. [`Finding`] has an example.
+    /// What is found of a drive that was drawn by hand, a list of crossing numbers: accepted
+    /// exactly if it is a shortest drive from s to d, otherwise the position of the first crossing
+    /// at fault and why. Every [`Drive`] is accepted over the same markers. [`Finding`] has an
+    /// example.
     ///
     /// # Errors
     ///

@@ -1,5 +1,5 @@
-//! The sixteen calls of the static library, lent slices in place of pointers and lengths. All of the
-//! crate's `unsafe` is here.
+//! The sixteen calls of the static library, lent slices in place of pointers and lengths. All of
+//! the crate's `unsafe` is here.
 //!
 //! The library asks five things of its caller; for all else it answers or refuses. Four hold for
 //! every slice and every `&mut`:
@@ -107,7 +107,7 @@ pub(crate) fn distances(list: MarkersRef<'_>, place: Place, labels: &mut [u8]) -
     }
 }
 
-pub(crate) fn measure(list: MarkersRef<'_>, labels: &mut [u8], sheets: [&mut [u8]; 4]) -> u8 {
+pub(crate) fn measure(list: MarkersRef<'_>, labels: &mut [u8], sheets: [&mut [u16]; 4]) -> u8 {
     let [east, south, west, north] = sheets;
     // SAFETY: each pointer stands before its own slice's length. The five sheets that are written
     // are lent by `&mut` each, so they overlap neither one another nor the list.
@@ -352,7 +352,7 @@ pub(crate) fn write(list: MarkersRef<'_>, out: &mut [u8]) -> sys::WroteMap {
 }
 
 pub(crate) fn write_sheet(
-    sheet: &[u8],
+    sheet: &[u16],
     width: usize,
     height: usize,
     out: &mut [u8],
@@ -371,7 +371,7 @@ pub(crate) fn write_sheet(
     }
 }
 
-pub(crate) fn read_sheet(file: &[u8], sheet: &mut [u8]) -> sys::SheetRead {
+pub(crate) fn read_sheet(file: &[u8], sheet: &mut [u16]) -> sys::SheetRead {
     // SAFETY: each pointer stands before its own slice's length. Only `sheet` is written, and it is
     // lent by `&mut`.
     unsafe { sys::bodkin_read_sheet(file.as_ptr(), file.len(), sheet.as_mut_ptr(), sheet.len()) }

@@ -2,8 +2,8 @@
 
 use crate::{Map, Place};
 
-/// The byte that stands in a distance sheet where there is no distance.
-pub const NO_DISTANCE: u8 = 255;
+/// The number that stands in a distance sheet where there is no distance.
+pub const NO_DISTANCE: u16 = 65_535;
 
 /// A crossing's four clear distances: the hops along its row or column to the nearest closed
 /// crossing that way, or `None` if there is none. At a closed crossing all four are 0.
@@ -11,30 +11,31 @@ pub const NO_DISTANCE: u8 = 255;
 /// ```
 /// use grainbodkin::Clear;
 ///
-/// let clear = Clear::from([3, 255, 255, 255]);
+/// let clear = Clear::from([3, 255, 65_535, 65_535]);
 /// assert_eq!(clear.east, Some(3));
-/// assert_eq!(clear.south, None);
-/// assert_eq!(<[u8; 4]>::from(clear), [3, 255, 255, 255]);
+/// assert_eq!(clear.south, Some(255));
+/// assert_eq!(clear.west, None);
+/// assert_eq!(<[u16; 4]>::from(clear), [3, 255, 65_535, 65_535]);
 /// ```
 #[derive(Clone, Copy, Debug, PartialEq, Eq, Hash)]
 pub struct Clear {
     /// To the east.
-    pub east: Option<u8>,
+    pub east: Option<u16>,
     /// To the south.
-    pub south: Option<u8>,
+    pub south: Option<u16>,
     /// To the west.
-    pub west: Option<u8>,
+    pub west: Option<u16>,
     /// To the north.
-    pub north: Option<u8>,
+    pub north: Option<u16>,
 }
 
-fn distance(byte: u8) -> Option<u8> {
-    (byte != NO_DISTANCE).then_some(byte)
+fn distance(number: u16) -> Option<u16> {
+    (number != NO_DISTANCE).then_some(number)
 }
 
-/// From the four bytes east, south, west, north, in that order, with [`NO_DISTANCE`] for none.
-impl From<[u8; 4]> for Clear {
-    fn from([east, south, west, north]: [u8; 4]) -> Clear {
+/// From the four numbers east, south, west, north, in that order, with [`NO_DISTANCE`] for none.
+impl From<[u16; 4]> for Clear {
+    fn from([east, south, west, north]: [u16; 4]) -> Clear {
         Clear {
             east: distance(east),
             south: distance(south),
@@ -44,15 +45,15 @@ impl From<[u8; 4]> for Clear {
     }
 }
 
-/// The four bytes east, south, west, north, in that order, with [`NO_DISTANCE`] for none.
-impl From<Clear> for [u8; 4] {
-    fn from(clear: Clear) -> [u8; 4] {
+/// The four numbers east, south, west, north, in that order, with [`NO_DISTANCE`] for none.
+impl From<Clear> for [u16; 4] {
+    fn from(clear: Clear) -> [u16; 4] {
         let ways = [clear.east, clear.south, clear.west, clear.north];
         ways.map(|way| way.unwrap_or(NO_DISTANCE))
     }
 }
 
-/// The clear distances of a whole map: four sheets of one byte a crossing.
+/// The clear distances of a whole map: four sheets of one sixteen-bit number a crossing.
 ///
 /// ```
 /// use grainbodkin::{Clear, Map, Markers, Place, NO_DISTANCE};
@@ -71,11 +72,11 @@ impl From<Clear> for [u8; 4] {
 #[derive(Clone, Debug, PartialEq, Eq)]
 pub struct Distances {
     map: Map,
-    sheets: [Vec<u8>; 4],
+    sheets: [Vec<u16>; 4],
 }
 
 impl Distances {
-    pub(crate) fn new(map: Map, sheets: [Vec<u8>; 4]) -> Distances {
+    pub(crate) fn new(map: Map, sheets: [Vec<u16>; 4]) -> Distances {
         Distances { map, sheets }
     }
 
@@ -94,26 +95,26 @@ impl Distances {
             west.get(number)?,
             north.get(number)?,
         ];
-        Some(Clear::from(four.map(|byte| *byte)))
+        Some(Clear::from(four.map(|number| *number)))
     }
 
     /// The sheet of distances to the east.
-    pub fn east(&self) -> &[u8] {
+    pub fn east(&self) -> &[u16] {
         &self.sheets[0]
     }
 
     /// The sheet of distances to the south.
-    pub fn south(&self) -> &[u8] {
+    pub fn south(&self) -> &[u16] {
         &self.sheets[1]
     }
 
     /// The sheet of distances to the west.
-    pub fn west(&self) -> &[u8] {
+    pub fn west(&self) -> &[u16] {
         &self.sheets[2]
     }
 
     /// The sheet of distances to the north.
-    pub fn north(&self) -> &[u8] {
+    pub fn north(&self) -> &[u16] {
         &self.sheets[3]
     }
 }

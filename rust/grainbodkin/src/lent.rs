@@ -67,8 +67,8 @@ impl MarkersRef<'_> {
         Refusal::or(answer.refusal, Clear::from(answer.four))
     }
 
-    /// The clear distances of the whole map, one sheet a way; [`NO_DISTANCE`](crate::NO_DISTANCE)
-    /// where there is none. `labels` holds the labels.
+    /// The clear distances of the whole map, one sheet a way, of one sixteen-bit number a crossing;
+    /// [`NO_DISTANCE`](crate::NO_DISTANCE) where there is none. `labels` holds the labels.
     ///
     /// # Errors
     ///
@@ -76,10 +76,10 @@ impl MarkersRef<'_> {
     pub fn measure(
         self,
         labels: &mut [u8],
-        east: &mut [u8],
-        south: &mut [u8],
-        west: &mut [u8],
-        north: &mut [u8],
+        east: &mut [u16],
+        south: &mut [u16],
+        west: &mut [u16],
+        north: &mut [u16],
     ) -> Result<(), Refusal> {
         Refusal::or(calls::measure(self, labels, [east, south, west, north]), ())
     }
@@ -108,7 +108,8 @@ impl MarkersRef<'_> {
     /// let list = MarkersRef { slots: &slots, count: 3, width: 8, height: 8 };
     /// let mut labels = [9; 64];
     ///
-    /// // Home (0,2) is not assured for (4,5): the hop is refused, and the sheet holds the labels all the same.
+    /// // Home (0,2) is not assured for (4,5): the hop is refused, and the sheet holds the labels
+    /// // all the same.
     /// let hop = list.hop(Place::new(0, 2), Place::new(4, 5), &mut labels);
     /// assert_eq!(hop, Err(Refusal::NotAssured));
     /// assert_eq!(labels[2 * 8..3 * 8], [0, 0, 0, 1, 2, 1, 0, 0]);
@@ -174,8 +175,8 @@ impl MarkersRef<'_> {
         Refusal::or(answer.refusal, &mut route[..answer.length])
     }
 
-    /// What is found of a drawn list of crossing numbers: accepted exactly if it is a shortest drive
-    /// from s to d, otherwise the first fault. `labels` holds the labels.
+    /// What is found of a drawn list of crossing numbers: accepted exactly if it is a shortest
+    /// drive from s to d, otherwise the first fault. `labels` holds the labels.
     ///
     /// # Errors
     ///
@@ -217,9 +218,9 @@ impl MarkersRef<'_> {
 
     /// The drive from s to d by way of the crossing where their crossing lines meet: the drive to
     /// there, then the one from there, with the state handed on and the meeting crossing written
-    /// once. Hands back the filled part of the route, crossing numbers, s first and d last. The rest
-    /// of the route is unchanged. `labels` holds the labels and `region` the region of s and d, and
-    /// the chooser moves on.
+    /// once. Hands back the filled part of the route, crossing numbers, s first and d last. The
+    /// rest of the route is unchanged. `labels` holds the labels and `region` the region of s and
+    /// d, and the chooser moves on.
     ///
     /// # Errors
     ///
@@ -239,7 +240,8 @@ impl MarkersRef<'_> {
     /// let filled = list.lines_drive(s, d, &mut labels, &mut region, &mut route, &mut chooser)?;
     /// assert_eq!(filled, [0, 8, 9, 10]);
     ///
-    /// // From (0,0) to (2,0) the rock lies between: no row is open. The route is too short as well.
+    /// // From (0,0) to (2,0) the rock lies between: no row is open. The route is too short as
+    /// // well.
     /// region = [9; 64];
     /// let d = Place::new(2, 0);
     /// let refused = list.lines_drive(s, d, &mut labels, &mut region, &mut [], &mut chooser);

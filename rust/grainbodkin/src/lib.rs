@@ -71,5 +71,5 @@ pub use lines::Lines;
 pub use map::{Map, Place, LONGEST_FILE, LONGEST_PICTURE, SIDE};
 pub use marker::{Marker, MARKERS};
 pub use markers::Markers;
-pub use pictures::{read_sheet, write_sheet, LARGEST};
+pub use pictures::{read_sheet, write_sheet, LARGEST, OLD_LARGEST};
 pub use refusal::{NoRefusal, Refusal};

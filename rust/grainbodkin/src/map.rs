@@ -5,14 +5,14 @@ use std::fmt;
 use crate::Refusal;
 
 /// The greatest width and the greatest height of a map.
-pub const SIDE: usize = 64;
+pub const SIDE: usize = 256;
 
-/// The most bytes that a written map file has: "P4", LF, two digits, space, two digits, LF and the
-/// packed rows.
+/// The most bytes that a written map file has: "P4", LF, three digits, space, three digits, LF and
+/// the packed rows.
 pub const LONGEST_FILE: usize = file_len(SIDE, SIDE);
 
-/// The most bytes that a written picture has: "P5", LF, two digits, space, two digits, LF, "255",
-/// LF and a byte a crossing.
+/// The most bytes that a written picture has: "P5", LF, three digits, space, three digits, LF,
+/// "65535", LF and two bytes a crossing.
 pub const LONGEST_PICTURE: usize = picture_len(SIDE, SIDE);
 
 /// A crossing that is asked for or stands on a map: x rises to the east from 0, y rises to the
@@ -103,7 +103,7 @@ impl Map {
         self.height
     }
 
-    /// How many crossings there are: the bytes of a sheet.
+    /// How many crossings there are: the bytes of a sheet, and the numbers of one of distances.
     pub const fn crossings(self) -> usize {
         self.width * self.height
     }
@@ -144,7 +144,7 @@ impl Map {
     /// assert!(map.rows(&sheet).eq([[5, 6], [3, 4], [1, 2]]));
     /// # Ok::<(), grainbodkin::Refusal>(())
     /// ```
-    pub fn rows(self, sheet: &[u8]) -> impl Iterator<Item = &[u8]> {
+    pub fn rows<T>(self, sheet: &[T]) -> impl Iterator<Item = &[T]> {
         sheet.chunks(self.width).rev()
     }
 
@@ -165,7 +165,7 @@ impl Map {
     /// use grainbodkin::Map;
     ///
     /// let map = Map::new(12, 3)?;
-    /// assert_eq!(map.picture_len(), "P5\n12 3\n255\n".len() + 3 * 12);
+    /// assert_eq!(map.picture_len(), "P5\n12 3\n65535\n".len() + 3 * 12 * 2);
     /// # Ok::<(), grainbodkin::Refusal>(())
     /// ```
     pub const fn picture_len(self) -> usize {
@@ -178,9 +178,9 @@ const fn file_len(width: usize, height: usize) -> usize {
     3 + digits(width) + 1 + digits(height) + 1 + height * width.div_ceil(8)
 }
 
-/// "P5", LF, width, space, height, LF, "255", LF and a byte a crossing.
+/// "P5", LF, width, space, height, LF, "65535", LF and two bytes a crossing.
 const fn picture_len(width: usize, height: usize) -> usize {
-    3 + digits(width) + 1 + digits(height) + 1 + 4 + height * width
+    3 + digits(width) + 1 + digits(height) + 1 + 6 + 2 * height * width
 }
 
 const fn digits(side: usize) -> usize {

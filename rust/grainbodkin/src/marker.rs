@@ -3,7 +3,7 @@
 use crate::Place;
 
 /// The most markers that a list may have in use.
-pub const MARKERS: usize = 4096;
+pub const MARKERS: usize = 8192;
 
 /// A rock marker: an id, 1 to 65,535, and a crossing.
 ///

@@ -2,11 +2,15 @@
 
 use crate::{calls, Map, Refusal};
 
-/// The largest value of a picture: its header's third number is this one.
-pub const LARGEST: usize = 255;
+/// The largest value of a picture that is written, its header's third number: two bytes a crossing.
+pub const LARGEST: usize = 65_535;
 
-/// Writes a sheet of one byte a crossing as a raw PGM picture, north row first, to the front of
-/// `out`, and hands back how many bytes it takes: [`Map::picture_len`]. Bytes past the end stay.
+/// The largest value of an old picture, which is read too: one byte a crossing.
+pub const OLD_LARGEST: usize = 255;
+
+/// Writes a sheet of one sixteen-bit number a crossing as a raw PGM picture, two bytes a crossing,
+/// high byte first, and the north row first, to the front of `out`; and hands back how many bytes
+/// it takes: [`Map::picture_len`]. Bytes past the end stay.
 ///
 /// Refuses 1, 2 or 17; then no byte changes.
 ///
@@ -18,7 +22,7 @@ pub const LARGEST: usize = 255;
 /// let distances = markers.measure()?;
 /// let mut picture = [0; 40];
 /// let bytes = write_sheet(distances.east(), 3, 2, &mut picture)?;
-/// assert_eq!(&picture[..bytes], b"P5\n3 2\n255\n\xff\xff\xff\x02\x01\x00");
+/// assert_eq!(&picture[..bytes], b"P5\n3 2\n65535\n\xff\xff\xff\xff\xff\xff\0\x02\0\x01\0\0");
 ///
 /// // What is written reads back as the same sheet.
 /// let mut sheet = [0; 6];
@@ -27,7 +31,7 @@ pub const LARGEST: usize = 255;
 /// # Ok::<(), grainbodkin::Refusal>(())
 /// ```
 pub fn write_sheet(
-    sheet: &[u8],
+    sheet: &[u16],
     width: usize,
     height: usize,
     out: &mut [u8],
@@ -37,7 +41,9 @@ pub fn write_sheet(
 }
 
 /// Reads a raw PGM picture into a sheet of its size, by crossing number, and hands back the map's
-/// size. The sheet is only bytes: nothing is said of it against any list.
+/// size. Its largest value is [`LARGEST`], with two bytes a crossing, or [`OLD_LARGEST`], with one
+/// byte, whose 255 becomes [`NO_DISTANCE`](crate::NO_DISTANCE). The sheet is only numbers: nothing
+/// is said of it against any list.
 ///
 /// Refuses 12, 13, 1, 18, 2, 14 or 15, in this order; then no byte changes.
 ///
@@ -47,8 +53,11 @@ pub fn write_sheet(
 /// let mut sheet = [7; 6];
 /// assert_eq!(read_sheet(b"P5 2 3 254 abcdef", &mut sheet), Err(Refusal::BadLargest));
 /// assert_eq!(sheet, [7; 6]);
+/// read_sheet(b"P5 2 3 255 ab\xff\xfeef", &mut sheet)?;
+/// assert_eq!(sheet, [101, 102, 65_535, 254, 97, 98]);
+/// # Ok::<(), Refusal>(())
 /// ```
-pub fn read_sheet(file: &[u8], sheet: &mut [u8]) -> Result<Map, Refusal> {
+pub fn read_sheet(file: &[u8], sheet: &mut [u16]) -> Result<Map, Refusal> {
     let answer = calls::read_sheet(file, sheet);
     Refusal::or(answer.refusal, ())?;
     Map::new(answer.width, answer.height)

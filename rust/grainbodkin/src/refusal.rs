@@ -18,17 +18,17 @@ use crate::{MARKERS, SIDE};
 /// ```
 /// use grainbodkin::{Map, Refusal};
 ///
-/// let refusal = Map::new(8, 65).unwrap_err();
+/// let refusal = Map::new(8, 257).unwrap_err();
 /// assert_eq!(refusal, Refusal::BadSize);
 /// assert_eq!(refusal.number(), 1);
-/// assert_eq!(refusal.to_string(), "refused 1: width or height is 0 or over 64");
+/// assert_eq!(refusal.to_string(), "refused 1: width or height is 0 or over 256");
 /// ```
 #[derive(Clone, Copy, Debug, PartialEq, Eq, PartialOrd, Ord, Hash)]
 #[repr(u8)]
 pub enum Refusal {
     /// 1: width or height is 0 or over [`SIDE`].
     BadSize = 1,
-    /// 2: a lent sheet is not width × height bytes.
+    /// 2: a lent sheet is not width × height bytes, or, of distances, sixteen-bit numbers.
     BadSheet = 2,
     /// 3: the count is over [`MARKERS`] or over the list lent, an id is 0, ids do not rise, or a
     /// marker is off the map.
@@ -64,7 +64,7 @@ pub enum Refusal {
     SharedCrossing = 16,
     /// 17: the output is too short for the whole file.
     ShortOutput = 17,
-    /// 18: a picture's largest value is other than 255.
+    /// 18: a picture's largest value is neither 255 nor 65535.
     BadLargest = 18,
     /// 19: a drive by way of crossing lines asked, and there are none.
     NoLines = 19,
@@ -116,7 +116,9 @@ impl fmt::Display for Refusal {
         write!(f, "refused {}: ", self.number())?;
         match self {
             Refusal::BadSize => write!(f, "width or height is 0 or over {SIDE}"),
-            Refusal::BadSheet => f.write_str("a lent sheet is not width times height bytes"),
+            Refusal::BadSheet => f.write_str(
+                "a lent sheet is not width times height bytes (of distances: numbers)",
+            ),
             Refusal::BadList => write!(
                 f,
                 "count over {MARKERS} or over the list lent, an id 0, ids not rising, or a marker off \
@@ -141,7 +143,7 @@ impl fmt::Display for Refusal {
             Refusal::LongRaster => f.write_str("there are bytes after the raster"),
             Refusal::SharedCrossing => f.write_str("two markers stand on one crossing"),
             Refusal::ShortOutput => f.write_str("the output is too short for the whole file"),
-            Refusal::BadLargest => f.write_str("the picture's largest value is other than 255"),
+            Refusal::BadLargest => f.write_str("the picture's largest value is neither 255 nor 65535"),
             Refusal::NoLines => f.write_str("no column and row between the ends are open throughout"),
         }
     }

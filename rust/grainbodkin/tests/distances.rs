@@ -40,11 +40,25 @@ fn the_distances_of_r() {
 
 #[test]
 fn the_largest_distance_is_one_less_than_the_side() {
-    let map = grainbodkin::Map::new(64, 64).unwrap();
+    let map = grainbodkin::Map::new(256, 256).unwrap();
     let mut markers = grainbodkin::Markers::new(map, 1);
-    markers.enter(1, at(63, 0)).unwrap();
-    assert_eq!(markers.distances(at(0, 0)).unwrap().east, Some(63));
-    assert_eq!(markers.distances(at(63, 63)).unwrap().south, Some(63));
+    markers.enter(1, at(255, 0)).unwrap();
+    let east = Clear {
+        east: Some(255),
+        ..NONE
+    };
+    let south = Clear {
+        south: Some(255),
+        ..NONE
+    };
+    assert_eq!(markers.distances(at(0, 0)), Ok(east));
+    assert_eq!(markers.distances(at(255, 255)), Ok(south));
+    // A distance of 255 is told from none, in the sheets too.
+    let distances = markers.measure().unwrap();
+    assert_eq!(distances.east()[..2], [255, 254]);
+    assert_eq!(distances.east()[256], NO_DISTANCE);
+    assert_eq!(distances.south()[65_534..], [NO_DISTANCE, 255]);
+    assert_eq!(distances.at(at(0, 0)), Some(east));
 }
 
 #[test]
@@ -60,7 +74,7 @@ fn the_sheets_hold_each_crossings_distances() {
             distances.west(),
             distances.north(),
         ];
-        assert_eq!(sheets.map(|sheet| sheet[number]), <[u8; 4]>::from(clear));
+        assert_eq!(sheets.map(|sheet| sheet[number]), <[u16; 4]>::from(clear));
         assert_eq!(distances.at(place), Some(clear));
     }
     assert_eq!(distances.at(at(8, 0)), None);

@@ -6,7 +6,7 @@ use std::collections::HashSet;
 
 use common::{at, bad_lists, eight, slots, BAD_SIZES, R};
 use grainbodkin::{
-    Map, Marker, Markers, MarkersMut, MarkersRef, Place, Refusal, LONGEST_FILE, SIDE,
+    Map, Marker, Markers, MarkersMut, MarkersRef, Place, Refusal, LONGEST_FILE, MARKERS, SIDE,
 };
 
 const OTHER: Marker = Marker::new(500, 600, 700);
@@ -49,9 +49,9 @@ fn refused_files_change_no_slot() {
         (b"P1#\n3 2 010101", Refusal::BadHeader),
         (b"P1 1234567890 2 010101", Refusal::BadHeader),
         (b"P4 3 2", Refusal::BadHeader),
-        (b"P4 65 2x", Refusal::BadHeader), // a header's fault comes before a size
-        (b"P1 0 2 x", Refusal::BadSize),   // a size comes before the raster's fault
-        (b"P4 3 65 ", Refusal::BadSize),
+        (b"P4 257 2x", Refusal::BadHeader), // a header's fault comes before a size
+        (b"P1 0 2 x", Refusal::BadSize),    // a size comes before the raster's fault
+        (b"P4 3 257 ", Refusal::BadSize),
         (b"P1 3 2 01 2 101", Refusal::BadHeader),
         (b"P1 3 2 01#\n0101", Refusal::BadHeader),
         (b"P1 3 2 01010", Refusal::ShortRaster),
@@ -73,6 +73,31 @@ fn refused_files_change_no_slot() {
         assert_eq!(slots, [OTHER; 5]);
         assert_eq!(Markers::read(file, 5), Err(refusal));
     }
+}
+
+/// A map may have more rocks than a list may hold: 7, whatever the room.
+#[test]
+fn more_rocks_than_markers_are_refused_7() {
+    let full = [b"P4 256 256 ".as_slice(), &[0xff; 8192]].concat();
+    let mut slots = vec![OTHER; 65_536];
+    let refused = MarkersMut::read(&full, &mut slots).unwrap_err();
+    assert_eq!(refused, Refusal::NoSlot);
+    assert_eq!(slots, vec![OTHER; 65_536]);
+    assert_eq!(Markers::read(&full, MARKERS), Err(Refusal::NoSlot));
+    // The raster's faults come first.
+    let short = Markers::read(&full[..full.len() - 1], MARKERS);
+    assert_eq!(short, Err(Refusal::ShortRaster));
+    // 32 rows of rocks are as many as a list may hold, and one more is not.
+    let mut most = full;
+    most[11 + 1024..].fill(0);
+    let markers = Markers::read(&most, MARKERS).unwrap();
+    assert_eq!(
+        markers.as_slice().last(),
+        Some(&Marker::new(8192, 255, 224))
+    );
+    assert_eq!(markers.write().unwrap()[11..], most[11..]);
+    most[11 + 1024] = 0x80;
+    assert_eq!(Markers::read(&most, MARKERS), Err(Refusal::NoSlot));
 }
 
 #[test]
@@ -144,8 +169,13 @@ fn rocks(markers: &Markers) -> HashSet<Place> {
 
 #[test]
 fn every_size_is_written_in_its_file_length_and_read_again() {
-    let sizes = (1..=SIDE).flat_map(|width| (1..=SIDE).map(move |height| (width, height)));
-    for map in sizes.map(|(width, height)| Map::new(width, height).unwrap()) {
+    // Every width with some heights, and every height with some widths: all bytes and digits.
+    let some = [1, 2, 9, 10, 99, 100, SIDE];
+    let sides = (1..=SIDE).flat_map(|side| some.map(|other| [(side, other), (other, side)]));
+    for map in sides
+        .flatten()
+        .map(|(width, height)| Map::new(width, height).unwrap())
+    {
         let mut markers = Markers::new(map, 2);
         let corners = HashSet::from([at(0, 0), at(map.width() - 1, map.height() - 1)]);
         for (id, corner) in (1..).zip(&corners) {
@@ -159,7 +189,7 @@ fn every_size_is_written_in_its_file_length_and_read_again() {
         out.pop();
         assert_eq!(markers.lend().write(&mut out), Err(Refusal::ShortOutput));
     }
-    assert_eq!(LONGEST_FILE, "P4\n64 64\n".len() + 64 * 8);
+    assert_eq!(LONGEST_FILE, "P4\n256 256\n".len() + 256 * 32);
 }
 
 #[test]

@@ -94,8 +94,8 @@ fn refusals_of_entering_change_no_slot() {
     }
     assert_eq!(refused(&two, 2, enter(2, 1, 1)), Refusal::IdInUse);
     assert_eq!(refused(&two, 2, enter(3, 1, 1)), Refusal::NoSlot);
-    let most: Vec<Marker> = (1..=4100).map(|id| Marker::new(id, 7, 7)).collect();
-    assert_eq!(refused(&most, 4096, enter(5000, 1, 1)), Refusal::NoSlot);
+    let most: Vec<Marker> = (1..=8200).map(|id| Marker::new(id, 7, 7)).collect();
+    assert_eq!(refused(&most, 8192, enter(9000, 1, 1)), Refusal::NoSlot);
 }
 
 #[test]

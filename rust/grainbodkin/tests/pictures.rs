@@ -1,6 +1,7 @@
 //! The two picture calls through the wrapper.
 use grainbodkin::{
-    read_sheet, write_sheet, Map, Markers, Place, Refusal, LARGEST, LONGEST_PICTURE, SIDE,
+    read_sheet, write_sheet, Map, Markers, Place, Refusal, LARGEST, LONGEST_PICTURE, NO_DISTANCE,
+    OLD_LARGEST, SIDE,
 };
 
 /// Every sheet of distances reads back as the same sheet, and takes the bytes that are foretold.
@@ -25,6 +26,31 @@ fn distances_read_back() {
     }
 }
 
+/// Two bytes a crossing, high byte first, and the north row first.
+#[test]
+fn high_byte_first() {
+    let sheet = [1, 255, 256, NO_DISTANCE];
+    let mut picture = [9; 24];
+    assert_eq!(write_sheet(&sheet, 2, 2, &mut picture), Ok(21));
+    let written = b"P5\n2 2\n65535\n\x01\0\xff\xff\0\x01\0\xff";
+    assert_eq!(&picture[..21], written);
+    assert_eq!(picture[21..], [9; 3]);
+    let mut back = [9; 4];
+    assert_eq!(read_sheet(written, &mut back), Map::new(2, 2));
+    assert_eq!(back, sheet);
+}
+
+/// An old picture has one byte a crossing, and its 255 becomes the mark.
+#[test]
+fn old_pictures() {
+    let head = format!("P5\n256 1\n{OLD_LARGEST}\n");
+    let file: Vec<u8> = head.bytes().chain(0..=255).collect();
+    let mut sheet = [9; 256];
+    assert_eq!(read_sheet(&file, &mut sheet), Map::new(256, 1));
+    assert!((0..255).eq(sheet[..255].iter().copied()));
+    assert_eq!(sheet[255], NO_DISTANCE);
+}
+
 /// The largest picture takes the most bytes, and one byte less is refused and changes nothing.
 #[test]
 fn longest() {
@@ -43,15 +69,21 @@ fn longest() {
 /// Each refusal of reading before those that stand after it in the order, and the sheet stays.
 #[test]
 fn order_of_reading() {
-    let rows: [(&[u8], usize, Refusal); 8] = [
+    let rows: [(&[u8], usize, Refusal); 14] = [
         (b"P4 0 3 9 ", 5, Refusal::BadLetters),
         (b"P5 0 3 ", 5, Refusal::BadHeader),
         (b"P5 0 3 9 ", 5, Refusal::BadSize),
-        (b"P5 65 3 255 ", 5, Refusal::BadSize),
+        (b"P5 257 3 255 ", 5, Refusal::BadSize),
         (b"P5 2 3 9 ", 5, Refusal::BadLargest),
+        (b"P5 2 3 256 abcdefabcdef", 6, Refusal::BadLargest),
+        (b"P5 2 3 65534 ", 5, Refusal::BadLargest),
         (b"P5 2 3 255 ", 5, Refusal::BadSheet),
+        (b"P5 2 3 65535 ", 12, Refusal::BadSheet),
         (b"P5 2 3 255 abcde", 6, Refusal::ShortRaster),
         (b"P5 2 3 255 abcdefg", 6, Refusal::LongRaster),
+        (b"P5 2 3 65535 abcdef", 6, Refusal::ShortRaster),
+        (b"P5 2 3 65535 abcdefabcde", 6, Refusal::ShortRaster),
+        (b"P5 2 3 65535 abcdefabcdefa", 6, Refusal::LongRaster),
     ];
     for (file, lent, refusal) in rows {
         let mut sheet = vec![8; lent];

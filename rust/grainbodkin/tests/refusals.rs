@@ -91,26 +91,33 @@ fn a_sheet_of_another_size_is_refused_2() {
         count: 9,
         ..eight(&slots)
     };
-    for bytes in [0, 63, 65, 4096] {
-        all_refuse(list, &Lent::new(bytes, 0), Refusal::BadSheet);
+    for length in [0, 63, 65, 128, 65_536] {
+        all_refuse(list, &Lent::new(length, 0), Refusal::BadSheet);
     }
 }
 
 /// One sheet alone is of another size: the askings that are lent it refuse 2.
 #[test]
 fn each_lent_sheet_counts() {
-    type Sheet = fn(&mut Lent) -> &mut Vec<u8>;
-    let sheets: [(Sheet, &[&str]); 5] = [
-        (|lent| &mut lent.region, &["region", "drive", "lines_drive"]),
-        (|lent| &mut lent.east, &["measure"]),
-        (|lent| &mut lent.south, &["measure"]),
-        (|lent| &mut lent.west, &["measure"]),
-        (|lent| &mut lent.north, &["measure"]),
+    let sheets: [(fn(&mut Lent), &[&str]); 9] = [
+        (
+            |lent| lent.region.push(0),
+            &["region", "drive", "lines_drive"],
+        ),
+        (|lent| lent.east.push(0), &["measure"]),
+        (|lent| lent.south.push(0), &["measure"]),
+        (|lent| lent.west.push(0), &["measure"]),
+        (|lent| lent.north.push(0), &["measure"]),
+        // Numbers are counted: as many bytes as crossings are half a sheet.
+        (|lent| lent.east.truncate(32), &["measure"]),
+        (|lent| lent.south.truncate(32), &["measure"]),
+        (|lent| lent.west.truncate(32), &["measure"]),
+        (|lent| lent.north.truncate(32), &["measure"]),
     ];
     let slots = slots(&R);
-    for (sheet, lent_to) in sheets {
+    for (change, lent_to) in sheets {
         let mut lent = Lent::new(64, 64);
-        sheet(&mut lent).push(0);
+        change(&mut lent);
         for (name, ask) in ASKINGS {
             let mut after = lent.clone();
             let answer = ask(eight(&slots), at(0, 0), at(1, 0), &mut after);
@@ -237,7 +244,7 @@ fn every_number_is_reached() {
 /// 64 by 1, and the count is 0: R's rocks are off those maps.
 #[test]
 fn hostile_numbers_are_answered() {
-    let numbers = [0, 1, 3, 64, 65, 1 << 32, usize::MAX];
+    let numbers = [0, 1, 3, 64, 256, 257, 1 << 32, usize::MAX];
     let pairs = || {
         numbers
             .iter()

@@ -16,13 +16,14 @@ pub struct Asking<'a> {
 }
 
 impl Asking<'_> {
-    /// Refusals 1 to 4, which change no lent byte. `others` are the sheets lent beside the label
-    /// sheet.
-    pub fn refusal(&self, others: &[&[u8]]) -> u8 {
+    /// Refusals 1 to 4, which change no lent byte. `others` are the lengths of the sheets lent
+    /// beside the label sheet.
+    pub fn refusal(&self, others: &[usize]) -> u8 {
         first_that_applies(&[
             (1, &|| self.map.bad_size()),
             (2, &|| {
-                self.map.bad_sheet(self.labels) || others.iter().any(|s| self.map.bad_sheet(s))
+                let bad = |&length: &usize| self.map.bad_sheet(length);
+                bad(&self.labels.len()) || others.iter().any(bad)
             }),
             (3, &|| bad_list(self.map, self.list, self.count)),
             (4, &|| self.places.iter().any(|&p| !self.map.has(p))),
@@ -41,18 +42,26 @@ pub struct Labelled {
     pub map: Map,
     pub rocks: Crossings,
     pub closed: Crossings,
+    /// Whether a crossing is closed, by number: looking along whole rows asks it very often.
+    closed_at: Vec<bool>,
 }
 
 impl Labelled {
     pub fn new(map: Map, used: &[Marker]) -> Labelled {
         let rocks = rocks(used);
         let closed = closed(map, &rocks);
-        Labelled { map, rocks, closed }
+        let closed_at = map.sheet(|c| closed.contains(&c));
+        Labelled {
+            map,
+            rocks,
+            closed,
+            closed_at,
+        }
     }
 
     /// A crossing of the map that is not closed.
     pub fn open(&self, c: Crossing) -> bool {
-        self.map.has(c) && !self.closed.contains(&c)
+        self.map.has(c) && !self.closed_at[self.map.number(c)]
     }
 
     /// Refusal 8: an end is closed.

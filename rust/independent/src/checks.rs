@@ -15,8 +15,9 @@ pub struct Checked {
 
 /// The crossing of the map that has this number.
 fn crossing(on: &Labelled, number: u16) -> Option<Crossing> {
-    let mut all = on.map.crossings();
-    all.find(|&c| on.map.number(c) == usize::from(number))
+    let number = usize::from(number);
+    let c = Crossing::new(number % on.map.width, number / on.map.width);
+    (on.map.has(c) && on.map.number(c) == number).then_some(c)
 }
 
 /// The first reason that applies at a position, or 0: 1 wrong start, 2 off the map, 3 closed, 4 not

@@ -199,6 +199,23 @@ mod tests {
         assert_eq!(text(b"P4 1 1 \0P4 1 1 "), format!("{one}refused 14\n"));
     }
 
+    /// A map with more rocks than a list may hold ends the run at once after its raster.
+    #[test]
+    fn too_many_rocks() {
+        let one = "1 1 0 0\n".repeat(4);
+        let full = [b"P4 256 256 ".as_slice(), &[0xff; 8192]].concat();
+        let input = [b"P4 1 1 \0", full.as_slice(), b"no map"].concat();
+        assert_eq!(text(&input), format!("{one}refused 7\n"));
+        assert_eq!(text(&input[..8 + 8202]), format!("{one}refused 14\n"));
+        let mut most = full;
+        most[11 + 1024..].fill(0);
+        let north = "57344 57344 0 0\n";
+        assert_eq!(
+            text(&most),
+            format!("{north}{north}0 0 0 0\n0 0 0 0\n114688 114688 0 0\n")
+        );
+    }
+
     /// The most maps, and a byte more.
     #[test]
     fn many_maps() {

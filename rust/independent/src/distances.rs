@@ -4,13 +4,13 @@ use crate::map::{Crossing, Way, WAYS};
 use crate::refusals::DONE;
 
 /// The mark for "there is none".
-pub const NONE: u8 = 255;
+pub const NONE: u16 = 65_535;
 
 /// What asking for one crossing's distances leaves: east, south, west, north.
 #[derive(Clone, Debug, PartialEq, Eq)]
 pub struct Four {
     pub refusal: u8,
-    pub four: [u8; 4],
+    pub four: [u16; 4],
     pub labels: Vec<u8>,
 }
 
@@ -19,7 +19,7 @@ pub struct Four {
 pub struct Measured {
     pub refusal: u8,
     pub labels: Vec<u8>,
-    pub sheets: [Vec<u8>; 4],
+    pub sheets: [Vec<u16>; 4],
 }
 
 /// What asking for assurance leaves.
@@ -32,7 +32,7 @@ pub struct Assurance {
 
 /// The hops along the row or column to the nearest closed crossing that way, looked for one hop
 /// after another; 0 at a closed crossing.
-pub fn clear(on: &Labelled, c: Crossing, way: Way) -> u8 {
+pub fn clear(on: &Labelled, c: Crossing, way: Way) -> u16 {
     let mut hops = 0;
     while let Some(there) = on.map.onward(c, way, usize::from(hops)) {
         if !on.open(there) {
@@ -44,17 +44,17 @@ pub fn clear(on: &Labelled, c: Crossing, way: Way) -> u8 {
 }
 
 /// A crossing's distances, east, south, west, north.
-pub fn four(on: &Labelled, c: Crossing) -> [u8; 4] {
+pub fn four(on: &Labelled, c: Crossing) -> [u16; 4] {
     WAYS.map(|way| clear(on, c, way))
 }
 
 /// Whether a distance of home is enough for an offset: "offset at most the distance" (Req 02).
-fn enough(distance: u8, offset: usize) -> bool {
+fn enough(distance: u16, offset: usize) -> bool {
     offset == 0 || distance == NONE || offset <= usize::from(distance)
 }
 
 /// Whether home, with its four distances, is assured for a place.
-pub fn is_assured_by(four: [u8; 4], on: &Labelled, home: Crossing, place: Crossing) -> bool {
+pub fn is_assured_by(four: [u16; 4], on: &Labelled, home: Crossing, place: Crossing) -> bool {
     let [east, south, west, north] = four;
     let east_west = if place.x > home.x { east } else { west };
     let north_south = if place.y > home.y { north } else { south };
@@ -87,9 +87,10 @@ pub fn distances(asking: Asking) -> Four {
     }
 }
 
-/// The four distances of every crossing, one sheet a way.
-pub fn measure(asking: Asking, sheets: [&[u8]; 4]) -> Measured {
-    let refusal = asking.refusal(&sheets);
+/// The four distances of every crossing, one sheet a way: "2 counts sixteen-bit numbers in a
+/// distance sheet" (Req 07).
+pub fn measure(asking: Asking, sheets: [&[u16]; 4]) -> Measured {
+    let refusal = asking.refusal(&sheets.map(<[u16]>::len));
     if refusal != DONE {
         return Measured {
             refusal,

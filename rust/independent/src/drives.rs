@@ -24,9 +24,12 @@ pub struct Drove {
     pub state: u32,
 }
 
+/// Drives are counted modulo this prime: on a map of 256 by 256 there are 510 over 255, a number of
+/// 507 bits. Up to 64 by 64 the counts are the numbers themselves.
+pub const MODULUS: u128 = (1 << 127) - 1;
+
 /// For each crossing that a shortest drive from `from` towards `to` can come to: how many such
-/// beginnings end there. A number of the next hop is the sum over the crossings before it. The
-/// largest is 126 over 63, which 128 bits hold.
+/// beginnings end there. A number of the next hop is the sum over the crossings before it.
 pub fn beginnings(on: &Labelled, from: Crossing, to: Crossing) -> BTreeMap<Crossing, u128> {
     let mut front = BTreeMap::from([(from, 1u128)]);
     let mut all = front.clone();
@@ -34,7 +37,8 @@ pub fn beginnings(on: &Labelled, from: Crossing, to: Crossing) -> BTreeMap<Cross
         let mut next = BTreeMap::new();
         for (&c, &ways) in &front {
             for n in nearer(on, c, to) {
-                *next.entry(n).or_insert(0) += ways;
+                let sum = next.entry(n).or_insert(0);
+                *sum = (*sum + ways) % MODULUS;
             }
         }
         all.extend(next.iter().map(|(&c, &ways)| (c, ways)));
@@ -103,7 +107,7 @@ pub fn drive_of(
 
 /// The region between the two places asked about.
 pub fn region(asking: Asking, region: &[u8]) -> Regioned {
-    let refusal = asking.refusal(&[region]);
+    let refusal = asking.refusal(&[region.len()]);
     if refusal != DONE {
         return Regioned {
             refusal,
@@ -123,7 +127,7 @@ pub fn region(asking: Asking, region: &[u8]) -> Regioned {
 /// A drive from the first place asked about to the second.
 pub fn drive(asking: Asking, region: &[u8], route: &[u16], state: u32) -> Drove {
     let mut after = Drove {
-        refusal: asking.refusal(&[region]),
+        refusal: asking.refusal(&[region.len()]),
         length: 0,
         labels: asking.labels.to_vec(),
         region: region.to_vec(),

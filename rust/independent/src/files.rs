@@ -173,7 +173,16 @@ pub fn picture(file: &[u8]) -> Result<Picture, u8> {
     Ok(Picture { map, rocks })
 }
 
-/// The markers of a file's rocks: ids 1, 2, 3 and on, in raster order.
+/// Refusal 7 for a list of so many slots: a map may have more rocks than a list may hold.
+pub fn fitting(picture: Picture, slots: usize) -> Result<Picture, u8> {
+    if picture.rocks.len() > slots || picture.rocks.len() > MOST {
+        return Err(7);
+    }
+    Ok(picture)
+}
+
+/// The markers of a file's rocks, at most as many as a list may hold: ids 1, 2, 3 and on, in raster
+/// order.
 pub fn markers_of(rocks: &[Crossing]) -> Vec<Marker> {
     let with_ids = rocks.iter().zip(1u16..);
     with_ids
@@ -187,9 +196,7 @@ pub fn markers_of(rocks: &[Crossing]) -> Vec<Marker> {
 
 /// Reads a map file into the first slots of a list.
 pub fn read(file: &[u8], list: &[Marker]) -> ReadMap {
-    let room = list.len().min(MOST);
-    let fits = |p: Picture| if p.rocks.len() > room { Err(7) } else { Ok(p) };
-    match picture(file).and_then(fits) {
+    match picture(file).and_then(|p| fitting(p, list.len())) {
         Ok(picture) => {
             let mut after = list.to_vec();
             after[..picture.rocks.len()].copy_from_slice(&markers_of(&picture.rocks));

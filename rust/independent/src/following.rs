@@ -1,7 +1,8 @@
 //! Document 02, Req 05, first part: raw maps that follow one another in one input, and the fault of
 //! a bad one.
-use crate::files::{header, is_blank, raw_bits, raw_bytes, rocks_of, Picture};
+use crate::files::{fitting, header, is_blank, raw_bits, raw_bytes, rocks_of, Picture};
 use crate::map::Map;
+use crate::markers::MOST;
 use crate::text::LONGEST;
 
 /// What stands first in an input that has bytes.
@@ -9,7 +10,7 @@ use crate::text::LONGEST;
 pub enum First {
     /// A map and how many bytes are its own: it ends where its raster ends.
     Map(Picture, usize),
-    /// 12, 13, 1 or 14. "15 is not given for bytes after a raster; they begin the next map."
+    /// 12, 13, 1, 14 or 7. "15 is not given for bytes after a raster; they begin the next map."
     Refused(u8),
     /// The bytes that bound a map neither end it nor show a fault, and the input goes on.
     Long,
@@ -29,7 +30,7 @@ fn map(input: &[u8]) -> Result<(Picture, usize), u8> {
     let end = at + raw_bytes(map);
     let raster = input.get(at..end).ok_or(14)?;
     let rocks = rocks_of(map, raw_bits(map, raster));
-    Ok((Picture { map, rocks }, end))
+    Ok((fitting(Picture { map, rocks }, MOST)?, end))
 }
 
 /// What stands first. Of a longer input only the bytes that bound a map are looked at: a fault of
@@ -45,7 +46,8 @@ pub fn first(input: &[u8]) -> First {
 
 /// Whether a fault of these bytes, at least two, is one whatever follows. Letters do not change. A
 /// header that has an end is the header, and so are its sides. One without an end may still get
-/// one, unless it is against the rules already. A raster may always go on.
+/// one, unless it is against the rules already. A raster that ends early may go on; the rocks of a
+/// whole one do not change.
 fn shows(bytes: &[u8], refusal: u8) -> bool {
     match refusal {
         13 => !may_become_header(&bytes[2..]),
@@ -161,7 +163,7 @@ mod tests {
             (b"P4 0 x", 13),
             (b"P4 0 1", 13),
             (b"P4 0 1 ", 1),
-            (b"P4 65 1 ", 1),
+            (b"P4 257 1 ", 1),
             (b"P4 9 2 ", 14),
             (b"P4 9 2 abc", 14),
         ] {

@@ -25,20 +25,20 @@ pub fn rocks(used: &[Marker]) -> Crossings {
 }
 
 /// The smallest set that holds all rocks and every crossing with two or more closed neighbours:
-/// from the rocks, whole-map sweeps until one adds nothing.
+/// from the rocks, sweeps until one adds nothing. A sweep looks at the neighbours of what the one
+/// before it added; a crossing that has none of these has as many closed neighbours as before.
 pub fn closed(map: Map, rocks: &Crossings) -> Crossings {
     let mut closed = rocks.clone();
-    loop {
-        let more: Vec<_> = map
-            .crossings()
+    let mut added = rocks.clone();
+    while !added.is_empty() {
+        let near = added.iter().flat_map(|&c| map.neighbours(c));
+        added = near
             .filter(|c| !closed.contains(c))
             .filter(|&c| map.neighbours(c).filter(|n| closed.contains(n)).count() >= 2)
             .collect();
-        if more.is_empty() {
-            return closed;
-        }
-        closed.extend(more);
+        closed.extend(&added);
     }
+    closed
 }
 
 /// The groups: whole sets of closed crossings connected through neighbours, each found by flooding
@@ -66,7 +66,7 @@ pub fn groups(map: Map, closed: &Crossings) -> Vec<Crossings> {
 pub fn label(list: &[Marker], count: usize, map: Map, labels: &[u8]) -> Labelling {
     let refusal = first_that_applies(&[
         (1, &|| map.bad_size()),
-        (2, &|| map.bad_sheet(labels)),
+        (2, &|| map.bad_sheet(labels.len())),
         (3, &|| bad_list(map, list, count)),
     ]);
     if refusal != DONE {
@@ -85,5 +85,38 @@ pub fn label(list: &[Marker], count: usize, map: Map, labels: &[u8]) -> Labellin
         shut: labelled.closed.len() - labelled.rocks.len(),
         groups: groups(map, &labelled.closed).len(),
         labels: labelled.sheet(),
+    }
+}
+
+#[cfg(test)]
+mod tests {
+    use super::*;
+    use crate::map::Crossing;
+
+    /// Sweeps over the whole map until one adds nothing, as the definition has it.
+    fn by_whole_sweeps(map: Map, rocks: &Crossings) -> Crossings {
+        let mut closed = rocks.clone();
+        loop {
+            let two = |&c: &Crossing| map.neighbours(c).filter(|n| closed.contains(n)).count() >= 2;
+            let more: Vec<_> = map.crossings().filter(two).collect();
+            let before = closed.len();
+            closed.extend(more);
+            if closed.len() == before {
+                return closed;
+            }
+        }
+    }
+
+    /// Looking only near what was added leaves nothing out: every small map.
+    #[test]
+    fn sweeps_near_what_was_added_are_enough() {
+        for (width, height) in [(1, 1), (5, 1), (3, 3), (4, 3), (2, 6)] {
+            let map = Map::new(width, height);
+            for rocks in 0..1u32 << (width * height) {
+                let rock = |c: &Crossing| rocks >> map.number(*c) & 1 == 1;
+                let rocks: Crossings = map.crossings().filter(rock).collect();
+                assert_eq!(closed(map, &rocks), by_whole_sweeps(map, &rocks));
+            }
+        }
     }
 }

@@ -1,5 +1,5 @@
-//! Document 02, "The crossing-lines test": a column and a row that are open throughout the rectangle
-//! which two places span, and the drive by way of the crossing where they meet.
+//! Document 02, "The crossing-lines test": a column and a row that are open throughout the
+//! rectangle which two places span, and the drive by way of the crossing where they meet.
 use crate::asking::{Asking, Labelled};
 use crate::drives::{drive_of, region_of, Drove};
 use crate::map::Crossing;
@@ -81,7 +81,7 @@ pub fn lines(asking: Asking) -> Tested {
 /// and state unchanged"; "On success and at 10 the region sheet holds the region of s and d".
 pub fn lines_drive(asking: Asking, region: &[u8], route: &[u16], state: u32) -> Drove {
     let mut after = Drove {
-        refusal: asking.refusal(&[region]),
+        refusal: asking.refusal(&[region.len()]),
         length: 0,
         labels: asking.labels.to_vec(),
         region: region.to_vec(),

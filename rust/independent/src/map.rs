@@ -2,7 +2,7 @@
 use std::collections::BTreeSet;
 
 /// Width and height are 1 to this.
-pub const SIDE: usize = 64;
+pub const SIDE: usize = 256;
 
 /// A crossing: x rises to the east from 0, y to the north from 0.
 #[derive(Clone, Copy, Debug, PartialEq, Eq, PartialOrd, Ord, Hash)]
@@ -56,9 +56,10 @@ impl Map {
             .any(|&side| side == 0 || side > SIDE)
     }
 
-    /// A sheet that is not width times height bytes. Asked only of allowed sizes.
-    pub fn bad_sheet(self, sheet: &[u8]) -> bool {
-        sheet.len() != self.width * self.height
+    /// A sheet whose length is not width times height: bytes, or of distances sixteen-bit numbers.
+    /// Asked only of allowed sizes.
+    pub fn bad_sheet(self, length: usize) -> bool {
+        length != self.width * self.height
     }
 
     pub fn has(self, c: Crossing) -> bool {
@@ -91,11 +92,11 @@ impl Map {
             .filter_map(move |way| self.onward(c, way, 1))
     }
 
-    /// A sheet, one byte a crossing, by number.
-    pub fn sheet(self, byte: impl Fn(Crossing) -> u8) -> Vec<u8> {
-        let mut sheet = vec![0; self.width * self.height];
+    /// A sheet, one value a crossing, by number.
+    pub fn sheet<T: Clone + Default>(self, value: impl Fn(Crossing) -> T) -> Vec<T> {
+        let mut sheet = vec![T::default(); self.width * self.height];
         for c in self.crossings() {
-            sheet[self.number(c)] = byte(c);
+            sheet[self.number(c)] = value(c);
         }
         sheet
     }

@@ -3,7 +3,7 @@ use crate::map::{Crossing, Map};
 use crate::refusals::{first_that_applies, DONE};
 
 /// At most so many markers are in use.
-pub const MOST: usize = 4096;
+pub const MOST: usize = 8192;
 
 /// A marker: an id, 1 to 65,535, and a crossing.
 #[derive(Clone, Copy, Debug, Default, PartialEq, Eq)]

@@ -1,8 +1,9 @@
 //! The labelling program's output.
 use crate::asking::Labelled;
-use crate::files::{markers_of, picture};
+use crate::files::{fitting, markers_of, picture};
 use crate::labels::{groups, ROCK, SHUT};
 use crate::map::Crossing;
+use crate::markers::MOST;
 
 /// A program takes at most so many input bytes.
 pub const LONGEST: usize = 65_536;
@@ -12,7 +13,7 @@ pub fn label_text(input: &[u8]) -> String {
     if input.len() > LONGEST {
         return "refused long\n".to_string();
     }
-    let picture = match picture(input) {
+    let picture = match picture(input).and_then(|p| fitting(p, MOST)) {
         Ok(picture) => picture,
         Err(refusal) => return format!("refused {refusal}\n"),
     };

@@ -123,7 +123,8 @@ module _ (w h : ℕ) (C : ℕ → ℕ → Type 0) (s : List ℕ) (D : Draws w h 
   pub clear-looks : (t : Way) (x y n : ℕ) → On w h x y → (Clear C t x y n ↔ n ≡ clearOf t s w h x y)
   clear-looks t x y n o = only (Clear C t x y) (clearOf t s w h x y) (clear-of t x y o) (λ n m. clear-one) n
 
-  -- "the largest is 63": a clear distance is below the limit of the sides, or is the mark for none.
+  -- "the largest is 63", and "Distances reach 255" (Req 07): a clear distance is below the limit of
+  -- the sides, or is the mark for none.
   pub clear-small : Sides w h → (t : Way) (x y n : ℕ) → On w h x y → Clear C t x y n → (n ≡ no-distance) ⊎ (n < side)
   clear-small d t x y n o (at-closed c e) = inr (omega arith)
   clear-small d t x y n o (nearest a b p l c f) = inr (along-short t side w h n x y a b (d .most-w) (d .most-h) o (D .complete a b c .on) l)

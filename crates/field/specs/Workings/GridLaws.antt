@@ -107,7 +107,7 @@ along-short southward n w h k x y a b p q o m l = omega arith
 along-short westward n w h k x y a b p q o m l = omega arith
 along-short northward n w h k x y a b p q o m l = omega arith
 
--- "255 is no distance: the largest is 63."
+-- "255 is no distance: the largest is 63." With Req 07 the mark is 65,535 and the largest is 255.
 pub no-distance-far : side ≤ no-distance
 unfolding side no-distance
 no-distance-far = omega arith

@@ -1,6 +1,6 @@
 -- `bodkin_measure` meets its promise: the walk of every asking that judges other sheets too
 -- (`Walking.antt`), at its form.
-use Rattle.walks.specs.Prelude.{refl, [], _∷_, w64, emp, factI, givenOf, tables, tablesOf, tripleOf, entered, cited, Form, Promised, value, u8, w8, vint, uint-tells}
+use Rattle.walks.specs.Prelude.{refl, [], _∷_, w64, emp, factI, givenOf, tables, tablesOf, tripleOf, entered, cited, Form, Promised, value, u8, u16, w8, vint, uint-tells}
 use Rattle.walks.specs.Prelude.{sheet, true, _↔_, _≡_, length, id⊢, beside}
 use Rattle.layer.proofs.Walking.{prepare-known, asks-judging}
 use Rattle.layer.proofs.Asking.{no-place}
@@ -20,7 +20,7 @@ use Rattle.layer.proofs.bodkin_measure.Statement as stated
 use Rattle.layer.proofs.bodkin_measure.Code as code
 
 abbrev F : Form
-F = record { widths = w64 ∷ w64 ∷ []; lent = sheet u8 ∷ sheet u8 ∷ sheet u8 ∷ sheet u8 ∷ []; result = value u8 (vint w8) (uint-tells w8) }
+F = record { widths = w64 ∷ w64 ∷ []; lent = sheet u16 ∷ sheet u16 ∷ sheet u16 ∷ sheet u16 ∷ []; result = value u8 (vint w8) (uint-tells w8) }
 
 pub bodkin-measure-spec : {M : Type 1} → stated.statement M
 unfolding code.routine tablesOf

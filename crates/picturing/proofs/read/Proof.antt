@@ -1,11 +1,15 @@
 -- `read` meets its promise: letters, header, and what the header's numbers tell, in that order;
--- then the raster is turned onto the sheet.
-use Prim.Native.Nat.{_≤_}
-use lib.ListN.{length, getD, drop}
+-- then the raster is read onto the sheet.
+use mathlib.Core.Path.{_≡_, sym, ap, subst, _∙_}
+use mathlib.Core.List.{List}
+use Prim.Native.Nat.{ℕ, _*_, _-_, _≤_}
+use lib.ListN.{length, getD, take, drop}
 use Rattle.sheets.proofs.Told.{told-no, told-yes}
 use Rattle.header.specs.Letters.{SameTwo}
 use Rattle.picturefile.specs.Picture.{picture-letters, Begins}
-use Rattle.picturing.proofs.Filing.{part-long, turned-part}
+use Rattle.picturefile.specs.declared.Depth.{Depth}
+use Rattle.picturefile.specs.Depths.{bytesOf, Drawn}
+use Rattle.picturing.proofs.Lending.{rest-is}
 use Rattle.picturing.proofs.Answering.{read-no-letters, read-no-header, head-begins, read-judged, read-sound, read-done}
 use borrow.Author.Needs.{needs}
 use Rattle.picturing.proofs.read.Statement.{statement}
@@ -71,8 +75,8 @@ array-read-w c = search needs
 array-read-h : tie.Need-array-read-h
 array-read-h c = search needs
 
-array-read-refusal : tie.Need-array-read-refusal
-array-read-refusal c = search needs
+array-read-largest : tie.Need-array-read-largest
+array-read-largest c = search needs
 
 sub-refusal : tie.Need-sub-refusal
 sub-refusal c = found (c .before) .0
@@ -88,22 +92,40 @@ returns-3 c =
     let n = c .before .before in
     read-judged _ (n .before .before .head .given .0 .0) (found (n .before .before) .1) (n .refusal .ensures) (c .before .if2 .taken) (c .not-read3 .ensures)
 
-sub-turn : tie.Need-sub-turn
-sub-turn c = found (c .before .before .before) .0
+sub-read-rows : tie.Need-sub-read-rows
+sub-read-rows c = found (c .before .before .before) .0
 
-part-turn-start : tie.Need-part-turn-start
-part-turn-start c = found (c .before .before .before) .0
+part-read-rows-start : tie.Need-part-read-rows-start
+part-read-rows-start c = found (c .before .before .before) .0
 
-part-turn-end : tie.Need-part-turn-end
-part-turn-end c = search needs
+part-read-rows-end : tie.Need-part-read-rows-end
+part-read-rows-end c = search needs
 
-turn-requires : tie.Need-turn-requires
-turn-requires c κs =
-    let e = c .before .before in
+depth-of-requires : tie.Need-depth-of-requires
+depth-of-requires c κs = search needs
+
+-- The slice from the raster's first byte on is what follows the header, and the kind is the one
+-- that the refusals were told by.
+rest-whole : (file : List ℕ) (at n : ℕ) {d e : Depth} → d ≡ e → length (drop at file) ≡ n * bytesOf e → length (take (length file - at) (drop at file)) ≡ n * bytesOf d
+rest-whole file at n q l = ap length (rest-is file at) ∙ l ∙ ap (λ (k : Depth). n * bytesOf k) (sym q)
+
+rest-drawn : (file : List ℕ) (at : ℕ) {d e : Depth} {w h : ℕ} {sheet : List ℕ} → d ≡ e → Drawn d w h (take (length file - at) (drop at file)) sheet
+    → Drawn e w h (drop at file) sheet
+rest-drawn file at {w = w} {h = h} {sheet = sheet} q t =
+    subst (λ (k : Depth). Drawn k w h (drop at file) sheet) q (rw (rest-is file at) at t)
+
+read-rows-requires : tie.Need-read-rows-requires
+read-rows-requires c κs =
+    let d = c .before in
+    let e = d .before .before in
     let n = e .before in
     let g = n .before .before in
     let s = read-sound (start (read g) .args .sheet .now) (g .head .given .0 .0) (found g .1) (n .refusal .ensures) (e .if2 .left) in
-    record { sides = s .sides; whole = part-long (start (read g) .args .src .now) (g .head .given .0 .0) (s .left); size = s .size }
+    record {
+      sides = s .sides;
+      whole = rest-whole (start (read g) .args .src .now) (g .head .given .0 .0) _ (d .depth-of .ensures) (s .left);
+      size = s .size;
+    }
 
 same-length : tie.Need-same-length
 same-length c = search needs
@@ -111,12 +133,12 @@ same-length c = search needs
 returns-4 : tie.Need-returns-4
 returns-4 c =
     let t = c .before .before in
-    let e = t .before .before .before in
+    let d = t .before .before in
+    let e = d .before .before in
     let n = e .before in
     let g = n .before .before in
-    let s = read-sound (start (read g) .args .sheet .now) (g .head .given .0 .0) (found g .1) (n .refusal .ensures) (e .if2 .left) in
     read-done (start (read g) .args .sheet .now) (g .head .given .0 .0) (found g .1) (n .refusal .ensures) (e .if2 .left)
-    (turned-part (start (read g) .args .src .now) (g .head .given .0 .0) (s .left) (t .turn .ensures))
+    (rest-drawn (start (read g) .args .src .now) (g .head .given .0 .0) (d .depth-of .ensures) (t .read-rows .ensures))
 
 pub read-spec : {M : Type 1} → statement M
 read-spec =
@@ -133,14 +155,15 @@ read-spec =
     returns-2
     array-read-w
     array-read-h
-    array-read-refusal
+    array-read-largest
     sub-refusal
     refusal-requires
     not-read-requires-3
     returns-3
-    sub-turn
-    part-turn-start
-    part-turn-end
-    turn-requires
+    sub-read-rows
+    part-read-rows-start
+    part-read-rows-end
+    depth-of-requires
+    read-rows-requires
     same-length
     returns-4)

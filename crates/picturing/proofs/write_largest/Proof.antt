@@ -1,4 +1,4 @@
--- `write_largest` meets its contract: the three digits and LF fill the slice.
+-- `write_largest` meets its contract: the five digits and LF fill the slice.
 use mathlib.Core.Path.{_≡_, sym, ap, ap₂, _∙_}
 use mathlib.Core.List.{List, [], _∷_, _++_}
 use Prim.Native.Nat.{ℕ}
@@ -34,11 +34,11 @@ returns : tie.Need-returns
 returns c =
     let out = c .before .before .before .before .before .args .out .now in
     let number = c .before .before .write-number in
-    let size : length out ≡ 4 = c .before .before .before .before .before .pre in
-    let first = filled-part [] 0 out out (filled-none out) 3 (number .last .0) (omega arith) (omega arith) (number .kept .0) in
-    let both = filled-byte (number .last .0) 3 out _ first 10 (omega arith) in
-    let lent : length (midOf 0 3 out) ≡ 3 = filled-lent [] 0 out out (filled-none out) 3 (omega arith) in
-    filled-all (number .last .0 ++ 10 ∷ []) 4 out _ both (sym size)
+    let size : length out ≡ 6 = c .before .before .before .before .before .pre in
+    let first = filled-part [] 0 out out (filled-none out) 5 (number .last .0) (omega arith) (omega arith) (number .kept .0) in
+    let both = filled-byte (number .last .0) 5 out _ first 10 (omega arith) in
+    let lent : length (midOf 0 5 out) ≡ 5 = filled-lent [] 0 out out (filled-none out) 5 (omega arith) in
+    filled-all (number .last .0 ++ 10 ∷ []) 6 out _ both (sym size)
     ∙ ap (λ (l : List ℕ). l ++ 10 ∷ []) (number .ensures ∙ ap₂ digitsOf lent (sym largest-is))
 
 pub write-largest-spec : {M : Type 1} → statement M

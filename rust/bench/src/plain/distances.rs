@@ -2,12 +2,12 @@
 use super::limits::*;
 
 /// The hops to the first closed crossing, the crossing itself being looked at first, or none.
-fn first_closed(mut along: impl Iterator<Item = u8>) -> u8 {
-    along.position(|b| b != OPEN).map_or(NONE, |k| k as u8)
+fn first_closed(mut along: impl Iterator<Item = u8>) -> u16 {
+    along.position(|b| b != OPEN).map_or(NONE, |k| k as u16)
 }
 
 /// The four distances of (x, y), east, south, west, north: looks along its row and its column.
-pub fn four(s: &[u8], w: usize, x: usize, y: usize) -> [u8; 4] {
+pub fn four(s: &[u8], w: usize, x: usize, y: usize) -> [u16; 4] {
     let row = &s[y * w..(y + 1) * w];
     let column = |y: usize| s[y * w + x];
     [
@@ -19,7 +19,7 @@ pub fn four(s: &[u8], w: usize, x: usize, y: usize) -> [u8; 4] {
 }
 
 /// A crossing's number, from its label and the number of its neighbour that way.
-fn run_on(b: u8, last: u8) -> u8 {
+fn run_on(b: u8, last: u16) -> u16 {
     if b != OPEN {
         0
     } else if last == NONE {
@@ -33,10 +33,10 @@ fn run_on(b: u8, last: u8) -> u8 {
 pub fn measure(
     s: &[u8],
     w: usize,
-    east: &mut [u8],
-    south: &mut [u8],
-    west: &mut [u8],
-    north: &mut [u8],
+    east: &mut [u16],
+    south: &mut [u16],
+    west: &mut [u16],
+    north: &mut [u16],
 ) {
     for (row, out) in s.chunks_exact(w).zip(east.chunks_exact_mut(w)) {
         along(row.iter().zip(out).rev());
@@ -49,7 +49,7 @@ pub fn measure(
 }
 
 /// One row, from the edge on, by one running number.
-fn along<'a>(row: impl Iterator<Item = (&'a u8, &'a mut u8)>) {
+fn along<'a>(row: impl Iterator<Item = (&'a u8, &'a mut u16)>) {
     let mut last = NONE;
     for (&b, out) in row {
         last = run_on(b, last);
@@ -58,8 +58,8 @@ fn along<'a>(row: impl Iterator<Item = (&'a u8, &'a mut u8)>) {
 }
 
 /// All rows, from the edge on: each number is made of the one next to it in the row written before.
-fn across<'a>(rows: impl Iterator<Item = (&'a [u8], &'a mut [u8])>) {
-    let mut before: Option<&[u8]> = None;
+fn across<'a>(rows: impl Iterator<Item = (&'a [u8], &'a mut [u16])>) {
+    let mut before: Option<&[u16]> = None;
     for (row, out) in rows {
         match before {
             None => {
@@ -81,10 +81,10 @@ fn across<'a>(rows: impl Iterator<Item = (&'a [u8], &'a mut [u8])>) {
 pub fn look_from_each(
     s: &[u8],
     w: usize,
-    east: &mut [u8],
-    south: &mut [u8],
-    west: &mut [u8],
-    north: &mut [u8],
+    east: &mut [u16],
+    south: &mut [u16],
+    west: &mut [u16],
+    north: &mut [u16],
 ) {
     for i in 0..s.len() {
         [east[i], south[i], west[i], north[i]] = four(s, w, i % w, i / w);

@@ -8,7 +8,8 @@ fn draw(z: u32) -> u32 {
     z.wrapping_mul(1664525).wrapping_add(1013904223)
 }
 
-/// The chooser's drive from s to d in the lent state, into the front of a lent route, and how many crossings it has; or refusal 8, 9 or 10.
+/// The chooser's drive from s to d in the lent state, into the front of a lent route, and how many
+/// crossings it has; or refusal 8, 9 or 10.
 pub fn drive(
     labels: &[u8],
     w: usize,

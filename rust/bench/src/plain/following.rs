@@ -56,6 +56,7 @@ pub fn first(src: &[u8], ended: bool, bits: &mut [u8]) -> First {
         return cut(ended, whole, SHORT_RASTER);
     }
     match raster::read_raw(&body[..own], w, h, bits) {
+        Ok(rocks) if rocks > MOST_MARKERS => First::Refused(NO_SLOT),
         Ok(_) => First::Map(w, h, src.len() - body.len() + own),
         Err(refusal) => First::Refused(refusal),
     }

@@ -4,12 +4,13 @@ use super::limits::*;
 use grainbodkin_sys::{Assurance, Homeward};
 
 /// Whether home's distance that way leaves room for the offset.
-fn enough(offset: usize, distance: u8) -> bool {
+fn enough(offset: usize, distance: u16) -> bool {
     distance == NONE || offset <= distance as usize
 }
 
-/// Whether one axis lets home at m be assured for the place at p, with home's distances upwards and downwards on it.
-pub fn axis(up: u8, down: u8, m: usize, p: usize) -> bool {
+/// Whether one axis lets home at m be assured for the place at p, with home's distances upwards and
+/// downwards on it.
+pub fn axis(up: u16, down: u16, m: usize, p: usize) -> bool {
     if m < p {
         enough(p - m, up)
     } else if p < m {
@@ -64,7 +65,8 @@ pub fn no_hop(refusal: u8) -> Homeward {
     }
 }
 
-/// The permitted hops from the place towards home. With an end closed: refusal 8; both open and home not assured: 11.
+/// The permitted hops from the place towards home. With an end closed: refusal 8; both open and
+/// home not assured: 11.
 pub fn homeward(labels: &[u8], w: usize, home: Place, place: Place) -> Homeward {
     if closed(labels, w, home) || closed(labels, w, place) {
         return no_hop(END_CLOSED);

@@ -8,7 +8,7 @@ pub fn sized(w: usize, h: usize) -> bool {
     (1..=SIDE).contains(&w) && (1..=SIDE).contains(&h)
 }
 
-/// Whether a sheet of n bytes is of the map's size.
+/// Whether a sheet of n bytes, or of n numbers, is of the map's size.
 pub fn fits(w: usize, h: usize, n: usize) -> bool {
     sized(w, h) && n == w * h
 }
@@ -17,8 +17,8 @@ fn on_map(w: usize, h: usize, (x, y): Place) -> bool {
     x < w && y < h
 }
 
-/// The first part of every asking: the lowest of refusals 1 to 4, or the markers in use. `others` tells whether every other lent
-/// sheet is of the map's size; `a` and `b` are the places asked.
+/// The first part of every asking: the lowest of refusals 1 to 4, or the markers in use. `others`
+/// tells whether every other lent sheet is of the map's size; `a` and `b` are the places asked.
 pub fn prepare<'a>(
     list: &'a [Marker],
     count: usize,

@@ -1,16 +1,16 @@
-//! Document 01's limits, label bytes and refusal numbers.
+//! The limits, label bytes and refusal numbers of document 01, as the requests have them now.
 
 /// Width and height: 1 to so many each.
-pub const SIDE: usize = 64;
+pub const SIDE: usize = 256;
 
 /// So many markers are in use at most.
-pub const MOST_MARKERS: usize = 4096;
+pub const MOST_MARKERS: usize = 8192;
 
 /// So many crossings a map has at most.
 pub const MOST_CROSSINGS: usize = SIDE * SIDE;
 
 /// The mark of a distance that there is none.
-pub const NONE: u8 = 255;
+pub const NONE: u16 = 65_535;
 
 /// A label sheet's bytes.
 pub const OPEN: u8 = 0;
@@ -39,8 +39,10 @@ pub const SHORT_OUTPUT: u8 = 17;
 pub const BAD_LARGEST: u8 = 18;
 pub const NO_LINES: u8 = 19;
 
-/// The largest value of a picture.
-pub const LARGEST: usize = 255;
+/// The largest value of a picture, and of an old one with its mark of no distance.
+pub const LARGEST: usize = 65_535;
+pub const OLD_LARGEST: usize = 255;
+pub const OLD_NONE: u8 = 255;
 
 /// The bytes that bound a map of a stream, and the maps of a run.
 pub const MOST_BYTES: usize = 65_536;

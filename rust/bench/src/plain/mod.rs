@@ -31,6 +31,8 @@ use grainbodkin_sys::{
 use judging::{fits, prepare};
 use limits::*;
 
+pub use limits::MOST_MARKERS;
+
 /// The plain Rust side. No call is inlined into its caller, as none of the library's is.
 pub struct Plain;
 
@@ -111,10 +113,10 @@ impl Layer for Plain {
         w: usize,
         h: usize,
         labels: &mut [u8],
-        east: &mut [u8],
-        south: &mut [u8],
-        west: &mut [u8],
-        north: &mut [u8],
+        east: &mut [u16],
+        south: &mut [u16],
+        west: &mut [u16],
+        north: &mut [u16],
     ) -> u8 {
         let sheets = [east, south, west, north];
         measured(list, count, w, h, labels, sheets, distances::measure)
@@ -329,7 +331,7 @@ impl Layer for Plain {
     }
 
     #[inline(never)]
-    fn write_sheet(sheet: &[u8], w: usize, h: usize, out: &mut [u8]) -> SheetWritten {
+    fn write_sheet(sheet: &[u16], w: usize, h: usize, out: &mut [u8]) -> SheetWritten {
         match pictures::write(sheet, w, h, out) {
             Err(refusal) => SheetWritten { refusal, bytes: 0 },
             Ok(bytes) => SheetWritten {
@@ -340,7 +342,7 @@ impl Layer for Plain {
     }
 
     #[inline(never)]
-    fn read_sheet(file: &[u8], sheet: &mut [u8]) -> SheetRead {
+    fn read_sheet(file: &[u8], sheet: &mut [u16]) -> SheetRead {
         match pictures::read(file, sheet) {
             Err(refusal) => SheetRead {
                 refusal,
@@ -356,8 +358,9 @@ impl Layer for Plain {
     }
 }
 
-/// Entering and clearing by block moves: the place that the search found is used, and the standard library moves all later markers at once. Not the
-/// library's method; it shows what that one leaves on the table.
+/// Entering and clearing by block moves: the place that the search found is used, and the standard
+/// library moves all later markers at once. Not the library's method; it shows what that one leaves
+/// on the table.
 pub struct Block;
 
 impl Listing for Block {
@@ -392,8 +395,8 @@ impl Listing for Block {
     }
 }
 
-/// Labelling crossing by crossing, with a stack and with notes of directions in the sheet's own bytes. Not the library's method; it shows what rows of
-/// bits save.
+/// Labelling crossing by crossing, with a stack and with notes of directions in the sheet's own
+/// bytes. Not the library's method; it shows what rows of bits save.
 pub struct Stack;
 
 impl Stack {
@@ -420,7 +423,8 @@ impl Stack {
     }
 }
 
-/// Measuring, whichever way the four sheets, east, south, west and north, are worked out from the labels.
+/// Measuring, whichever way the four sheets, east, south, west and north, are worked out from the
+/// labels.
 #[inline(always)]
 fn measured(
     list: &[Marker],
@@ -428,8 +432,8 @@ fn measured(
     w: usize,
     h: usize,
     labels: &mut [u8],
-    sheets: [&mut [u8]; 4],
-    by: impl Fn(&[u8], usize, &mut [u8], &mut [u8], &mut [u8], &mut [u8]),
+    sheets: [&mut [u16]; 4],
+    by: impl Fn(&[u8], usize, &mut [u16], &mut [u16], &mut [u16], &mut [u16]),
 ) -> u8 {
     let others = sheets.iter().all(|sheet| fits(w, h, sheet.len()));
     let markers = match prepare(list, count, w, h, (0, 0), (0, 0), others, labels) {
@@ -444,7 +448,8 @@ fn measured(
     SUCCESS
 }
 
-/// Measuring by looking along row and column again from each crossing. Not the library's method; it shows what the running numbers save.
+/// Measuring by looking along row and column again from each crossing. Not the library's method; it
+/// shows what the running numbers save.
 pub struct Looking;
 
 impl Looking {
@@ -455,10 +460,10 @@ impl Looking {
         w: usize,
         h: usize,
         labels: &mut [u8],
-        east: &mut [u8],
-        south: &mut [u8],
-        west: &mut [u8],
-        north: &mut [u8],
+        east: &mut [u16],
+        south: &mut [u16],
+        west: &mut [u16],
+        north: &mut [u16],
     ) -> u8 {
         let sheets = [east, south, west, north];
         measured(list, count, w, h, labels, sheets, distances::look_from_each)

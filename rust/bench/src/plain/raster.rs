@@ -1,10 +1,11 @@
-//! The two rasters. Each is read once, into one byte a crossing in raster order, and its rocks are counted; the list is filled from these bits once nothing
-//! is left to refuse.
+//! The two rasters. Each is read once, into one byte a crossing in raster order, and its rocks are
+//! counted; the list is filled from these bits once nothing is left to refuse.
 use super::header::is_blank;
 use super::limits::*;
 use grainbodkin_sys::Marker;
 
-/// Reads a P1 raster: digits 0 and 1, blanks allowed anywhere. The number of its rocks, or the first fault met, 13, 14 or 15.
+/// Reads a P1 raster: digits 0 and 1, blanks allowed anywhere. The number of its rocks, or the
+/// first fault met, 13, 14 or 15.
 pub fn read_plain(raster: &[u8], w: usize, h: usize, bits: &mut [u8]) -> Result<usize, u8> {
     let mut digits = 0;
     let mut rocks = 0;
@@ -34,7 +35,8 @@ fn bit(row: &[u8], x: usize) -> u8 {
     row[x / 8] >> (7 - x % 8) & 1
 }
 
-/// Reads a P4 raster: as many bytes as the packed rows have, or 14 or 15. The number of its rocks; pad bits are not looked at.
+/// Reads a P4 raster: as many bytes as the packed rows have, or 14 or 15. The number of its rocks;
+/// pad bits are not looked at.
 pub fn read_raw(raster: &[u8], w: usize, h: usize, bits: &mut [u8]) -> Result<usize, u8> {
     let bytes = w.div_ceil(8);
     if raster.len() < bytes * h {

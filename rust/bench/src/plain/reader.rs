@@ -1,11 +1,13 @@
-//! The map reader: P1 and P4. It goes over the file once, into bits of its own, so that a refusal changes no slot.
+//! The map reader: P1 and P4. It goes over the file once, into bits of its own, so that a refusal
+//! changes no slot.
 use super::header::header;
 use super::judging::sized;
 use super::limits::*;
 use super::raster;
 use grainbodkin_sys::Marker;
 
-/// Reads a map file into the first slots of the list. Hands back width, height and count, or the refusal.
+/// Reads a map file into the first slots of the list. Hands back width, height and count, or the
+/// refusal.
 pub fn read(file: &[u8], list: &mut [Marker]) -> Result<(usize, usize, usize), u8> {
     let (plain, bytes) = match file {
         [b'P', b'1', bytes @ ..] => (true, bytes),

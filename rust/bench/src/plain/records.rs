@@ -2,7 +2,8 @@
 use super::limits::*;
 use grainbodkin_sys::Marker;
 
-/// Whether the list is well formed on a map of this width and height: count within its limits, ids from 1 rising, every marker on the map.
+/// Whether the list is well formed on a map of this width and height: count within its limits, ids
+/// from 1 rising, every marker on the map.
 pub fn well_formed(list: &[Marker], count: usize, w: usize, h: usize) -> bool {
     if count > MOST_MARKERS || count > list.len() {
         return false;
@@ -17,7 +18,8 @@ pub fn well_formed(list: &[Marker], count: usize, w: usize, h: usize) -> bool {
     true
 }
 
-/// Enters a marker at its place by id, moving the later ones up one by one from the last down. Hands back the new count.
+/// Enters a marker at its place by id, moving the later ones up one by one from the last down.
+/// Hands back the new count.
 pub fn enter(list: &mut [Marker], count: usize, m: Marker) -> usize {
     let slots = &mut list[..=count];
     let mut k = count;
@@ -29,7 +31,8 @@ pub fn enter(list: &mut [Marker], count: usize, m: Marker) -> usize {
     count + 1
 }
 
-/// Clears the marker with this id, which is in use, moving the later ones down one by one from the last. Hands back the new count.
+/// Clears the marker with this id, which is in use, moving the later ones down one by one from the
+/// last. Hands back the new count.
 pub fn clear(list: &mut [Marker], count: usize, id: u16) -> usize {
     let mut above = Marker::default();
     for slot in list[..count].iter_mut().rev() {

@@ -1,5 +1,6 @@
-//! The region of shortest drives. A pass from s marks what a shortest drive from s reaches inside the rectangle that s and d span; a pass from d then
-//! keeps what also reaches d. The region sheet is its own working memory.
+//! The region of shortest drives. A pass from s marks what a shortest drive from s reaches inside
+//! the rectangle that s and d span; a pass from d then keeps what also reaches d. The region sheet
+//! is its own working memory.
 use super::hops::toward;
 use super::limits::*;
 
@@ -10,7 +11,8 @@ fn backed(g: &[u8], w: usize, (ex, ey): Place, (x, y): Place) -> bool {
         || (y != ey && g[toward(y, ey) * w + x] != 0)
 }
 
-/// Visits the rectangle that two ends span, row by row from the first end's row to the other's, and in each row from its column to the other's.
+/// Visits the rectangle that two ends span, row by row from the first end's row to the other's, and
+/// in each row from its column to the other's.
 fn span((ex, ey): Place, (fx, fy): Place, mut visit: impl FnMut(usize, usize)) {
     let mut y = ey;
     loop {
@@ -38,7 +40,8 @@ pub fn reach(labels: &[u8], w: usize, s: Place, d: Place, g: &mut [u8]) {
     });
 }
 
-/// The region from s to d into a lent sheet. With an end closed: refusal 8, and the sheet stays; with no shortest drive: 9, all 0.
+/// The region from s to d into a lent sheet. With an end closed: refusal 8, and the sheet stays;
+/// with no shortest drive: 9, all 0.
 pub fn region(labels: &[u8], w: usize, s: Place, d: Place, g: &mut [u8]) -> Result<(), u8> {
     let number = |(x, y): Place| y * w + x;
     if labels[number(s)] != OPEN || labels[number(d)] != OPEN {

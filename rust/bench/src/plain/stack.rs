@@ -1,5 +1,7 @@
-//! Labelling crossing by crossing, on a stamped sheet: what rows of bits are measured against. Every crossing that becomes closed goes on a stack once, and is looked around once when it is taken off. A crossing
-//! that is open so far keeps, in its own byte, a note of the direction of the one closed neighbour that was looked around; a second one shuts it.
+//! Labelling crossing by crossing, on a stamped sheet: what rows of bits are measured against.
+//! Every crossing that becomes closed goes on a stack once, and is looked around once when it is
+//! taken off. A crossing that is open so far keeps, in its own byte, a note of the direction of the
+//! one closed neighbour that was looked around; a second one shuts it.
 use super::limits::*;
 use grainbodkin_sys::Labelling;
 
@@ -26,7 +28,8 @@ fn gather(sheet: &[u8], w: usize, stack: &mut [u16; MOST_CROSSINGS]) -> usize {
     k
 }
 
-/// (x, y) has a closed neighbour in the direction that `note` tells: notes it, or shuts the crossing where another one was noted before.
+/// (x, y) has a closed neighbour in the direction that `note` tells: notes it, or shuts the
+/// crossing where another one was noted before.
 fn touch(
     sheet: &mut [u8],
     w: usize,
@@ -71,8 +74,9 @@ fn close(sheet: &mut [u8], w: usize, h: usize) {
     }
 }
 
-/// Labels a sheet on which the rocks are stamped: the closed crossings are found, then the notes are taken off, and rocks, shut crossings and groups
-/// are counted. A group is counted at its one closed crossing with neither a closed west nor a closed south neighbour.
+/// Labels a sheet on which the rocks are stamped: the closed crossings are found, then the notes
+/// are taken off, and rocks, shut crossings and groups are counted. A group is counted at its one
+/// closed crossing with neither a closed west nor a closed south neighbour.
 pub fn label(sheet: &mut [u8], w: usize, h: usize) -> Labelling {
     close(sheet, w, h);
     settle(sheet, w, h)

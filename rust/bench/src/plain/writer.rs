@@ -1,10 +1,12 @@
-//! The map writer: P4. The markers are stamped on a sheet first; fewer marks than markers tell that two share a crossing.
+//! The map writer: P4. The markers are stamped on a sheet first; fewer marks than markers tell that
+//! two share a crossing.
 use super::judging::prepare;
 use super::limits::*;
 use super::records;
 use grainbodkin_sys::Marker;
 
-/// Writes the list as a map file. Hands back the number of bytes written, or refusal 1, 3, 16 or 17, which changes none.
+/// Writes the list as a map file. Hands back the number of bytes written, or refusal 1, 3, 16 or
+/// 17, which changes none.
 pub fn write_list(
     list: &[Marker],
     count: usize,
@@ -40,10 +42,10 @@ fn write(sheet: &[u8], w: usize, h: usize, out: &mut [u8]) -> Option<usize> {
 
 /// How many decimal digits a width or height has.
 pub fn digit_count(v: usize) -> usize {
-    if v < 10 {
-        1
-    } else {
-        2
+    match v {
+        0..10 => 1,
+        10..100 => 2,
+        _ => 3,
     }
 }
 
@@ -55,7 +57,8 @@ pub fn write_number(out: &mut [u8], mut v: usize) {
     }
 }
 
-/// The packed rows, the northmost first, each into its own part of the output; the westmost crossing in the highest bit, pad bits 0.
+/// The packed rows, the northmost first, each into its own part of the output; the westmost
+/// crossing in the highest bit, pad bits 0.
 fn write_rows(sheet: &[u8], w: usize, out: &mut [u8]) {
     let parts = out.chunks_exact_mut(w.div_ceil(8));
     for (row, part) in sheet.chunks_exact(w).rev().zip(parts) {

@@ -49,31 +49,32 @@ pub fn owned(rocks: &[(u16, u16)]) -> Markers {
     markers
 }
 
-/// Everything that an asking may be lent besides the list. Its bytes are none that a call would
-/// write.
+/// Everything that an asking may be lent besides the list. Its bytes and numbers are none that a
+/// call would write.
 #[derive(Clone, Debug, PartialEq)]
 pub struct Lent {
     pub labels: Vec<u8>,
     pub region: Vec<u8>,
-    pub east: Vec<u8>,
-    pub south: Vec<u8>,
-    pub west: Vec<u8>,
-    pub north: Vec<u8>,
+    pub east: Vec<u16>,
+    pub south: Vec<u16>,
+    pub west: Vec<u16>,
+    pub north: Vec<u16>,
     pub route: Vec<u16>,
     pub chooser: Chooser,
 }
 
 impl Lent {
-    /// Sheets of so many bytes, and a route of so many numbers.
-    pub fn new(bytes: usize, numbers: usize) -> Lent {
-        let sheet = |byte: u8| vec![byte; bytes];
+    /// Sheets of so many bytes, of distances so many numbers, and a route of so many numbers.
+    pub fn new(length: usize, numbers: usize) -> Lent {
+        let sheet = |byte: u8| vec![byte; length];
+        let ways = |number: u16| vec![number; length];
         Lent {
             labels: sheet(101),
             region: sheet(102),
-            east: sheet(103),
-            south: sheet(104),
-            west: sheet(105),
-            north: sheet(106),
+            east: ways(10_003),
+            south: ways(10_004),
+            west: ways(10_005),
+            north: ways(10_006),
             route: vec![60_000; numbers],
             chooser: Chooser(77),
         }
@@ -123,12 +124,12 @@ pub fn asking(name: &str) -> Asking {
     named.unwrap().1
 }
 
-/// Sizes of which width or height is 0 or over 64.
+/// Sizes of which width or height is 0 or over 256.
 pub const BAD_SIZES: [(usize, usize); 6] = [
     (0, 8),
     (8, 0),
-    (65, 8),
-    (8, 65),
+    (257, 8),
+    (8, 257),
     (usize::MAX, 1),
     (1 << 63, 2),
 ];
@@ -137,11 +138,11 @@ pub const BAD_SIZES: [(usize, usize); 6] = [
 pub fn bad_lists() -> Vec<(Vec<Marker>, usize)> {
     let two = |a: Marker, b: Marker| (vec![a, b], 2);
     let first = Marker::new(4, 1, 1);
-    let many: Vec<Marker> = (1..=4097).map(|id| Marker::new(id, 0, 0)).collect();
+    let many: Vec<Marker> = (1..=8193).map(|id| Marker::new(id, 0, 0)).collect();
     vec![
         (slots(&R), 4),
         (slots(&R), usize::MAX),
-        (many, 4097),
+        (many, 8193),
         two(Marker::new(0, 1, 1), first),
         two(first, Marker::new(4, 2, 2)),
         two(first, Marker::new(3, 2, 2)),

@@ -15,6 +15,9 @@ pub const R: [(u16, u16); 3] = [(3, 2), (4, 3), (5, 2)];
 /// A sheet's bytes before a call: neither a label, a mark of a region nor a distance.
 pub const OLD: u8 = 77;
 
+/// The same of a sheet of distances.
+pub const OLD_NUMBER: u16 = 7_777;
+
 pub fn at(x: usize, y: usize) -> Crossing {
     Crossing::new(x, y)
 }

@@ -14,12 +14,12 @@ fn example_1_no_rocks() {
         (0, 0, 0, 0)
     );
     assert_eq!(after.labels, [0; 64]);
-    let sheets = [[OLD; 64]; 4];
+    let sheets = [[OLD_NUMBER; 64]; 4];
     let measured = measure(
         asking(&[], &[OLD; 64], &[]),
         std::array::from_fn(|i| &sheets[i][..]),
     );
-    assert!(measured.sheets.iter().all(|sheet| sheet == &[255; 64]));
+    assert!(measured.sheets.iter().all(|sheet| sheet == &[65_535; 64]));
 }
 
 #[test]
@@ -49,11 +49,11 @@ fn example_6_the_group_of_r() {
 fn example_7_distances() {
     let list = markers(&R);
     let four = |x, y| distances(asking(&list, &[OLD; 64], &[at(x, y)])).four;
-    assert_eq!(four(0, 2), [3, 255, 255, 255]);
-    assert_eq!(four(4, 0), [255, 255, 255, 2]);
+    assert_eq!(four(0, 2), [3, 65_535, 65_535, 65_535]);
+    assert_eq!(four(4, 0), [65_535, 65_535, 65_535, 2]);
     assert_eq!(four(4, 2), [0; 4]);
     // The whole map's sheets say the same of every crossing.
-    let sheets = [[OLD; 64]; 4];
+    let sheets = [[OLD_NUMBER; 64]; 4];
     let measured = measure(
         asking(&list, &[OLD; 64], &[]),
         std::array::from_fn(|i| &sheets[i][..]),
@@ -154,12 +154,46 @@ fn the_labelling_program() {
     assert_eq!(label_text(&long), "refused long\n");
 }
 
+/// A file with more rocks than a list may hold is refused 7, after the faults of its raster.
 #[test]
-fn the_most_drives_are_counted_exactly() {
+fn the_labelling_program_and_too_many_rocks() {
+    let full = [b"P4 256 256 ".as_slice(), &[0xff; 8192]].concat();
+    assert_eq!(label_text(&full), "refused 7\n");
+    assert_eq!(label_text(&full[..8202]), "refused 14\n");
+    let longer = [full.as_slice(), b"\n"].concat();
+    assert_eq!(label_text(&longer), "refused 15\n");
+    let mut most = full;
+    most[11 + 1024..].fill(0);
+    let rows = ["#", "."].map(|sign| sign.repeat(256) + "\n");
+    let text = rows[0].repeat(32) + &rows[1].repeat(224);
+    assert_eq!(label_text(&most), format!("256 256 8192 0 1\n{text}"));
+    most[8202] = 1;
+    assert_eq!(label_text(&most), "refused 7\n");
+    let plain = format!("P1 256 256 {}", "0".repeat(65_536));
+    assert_eq!(label_text(plain.as_bytes()), "refused long\n");
+}
+
+/// A distance of 255 is told from none.
+#[test]
+fn the_longest_distance() {
+    let list = markers(&[(255, 0)]);
+    let places = [at(0, 0)];
+    let asking = independent::asking::Asking {
+        map: Map::new(256, 1),
+        ..asking(&list, &[OLD; 256], &places)
+    };
+    assert_eq!(distances(asking).four, [255, 65_535, 65_535, 65_535]);
+}
+
+#[test]
+fn the_most_drives_are_counted() {
     let map = Map::new(64, 64);
     let on = independent::asking::Labelled::new(map, &[]);
     let (s, d) = (at(0, 0), at(63, 63));
     let drives = independent::drives::beginnings(&on, s, d)[&d];
     assert_eq!(drives, 6034934435761406706427864636568328000);
     assert_eq!(region_of(&on, s, d).len(), 4096);
+    // On the largest map they are counted by their remainder, and the region is all of it.
+    let on = independent::asking::Labelled::new(Map::new(256, 256), &[]);
+    assert_eq!(region_of(&on, s, at(255, 255)).len(), 65_536);
 }

@@ -63,12 +63,12 @@ fn separators_and_comments() {
 
 #[test]
 fn the_header_comes_before_sizes_and_these_before_rasters() {
-    assert_eq!(refusal(b"P1 65 1"), 13);
-    assert_eq!(refusal(b"P1 65 1 "), 1);
+    assert_eq!(refusal(b"P1 257 1"), 13);
+    assert_eq!(refusal(b"P1 257 1 "), 1);
     assert_eq!(refusal(b"P1 0 1 x"), 1);
     assert_eq!(refusal(b"P4 1 0 "), 1);
     assert_eq!(refusal(b"P4 999999999 999999999 "), 1);
-    assert_eq!(refusal(b"P4 64 64 "), 14);
+    assert_eq!(refusal(b"P4 256 256 "), 14);
 }
 
 #[test]
@@ -131,7 +131,15 @@ fn writing() {
 
 #[test]
 fn a_written_map_is_read_with_the_same_crossings() {
-    for (width, height) in [(1, 1), (7, 3), (8, 8), (9, 5), (64, 64), (1, 64), (64, 1)] {
+    for (width, height) in [
+        (1, 1),
+        (7, 3),
+        (8, 8),
+        (9, 5),
+        (256, 256),
+        (1, 256),
+        (256, 1),
+    ] {
         let map = Map::new(width, height);
         let rocks: Crossings = map
             .crossings()

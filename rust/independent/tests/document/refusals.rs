@@ -14,11 +14,11 @@ fn marker(id: u16, x: u16, y: u16) -> Marker {
 
 #[test]
 fn sizes() {
-    for side in [0, 65, usize::MAX] {
+    for side in [0, 257, usize::MAX] {
         assert_eq!(label(&[], 9, Map::new(side, 3), &[]).refusal, 1);
         assert_eq!(label(&[], 9, Map::new(3, side), &[]).refusal, 1);
     }
-    assert_eq!(label(&[], 0, Map::new(64, 64), &[OLD; 4096]).refusal, 0);
+    assert_eq!(label(&[], 0, Map::new(256, 256), &[OLD; 65_536]).refusal, 0);
 }
 
 #[test]
@@ -28,19 +28,19 @@ fn sheets_come_before_the_list() {
     assert_eq!((after.refusal, after.labels), (2, vec![OLD; 63]));
     assert_eq!(label(&bad, 1, EIGHT, &[OLD; 65]).refusal, 2);
     assert_eq!(label(&bad, 1, EIGHT, &[OLD; 64]).refusal, 3);
-    let good = [OLD; 64];
-    let short = [OLD; 63];
-    for wrong in 0..4 {
-        let sheets = std::array::from_fn(|i| if i == wrong { &short[..] } else { &good[..] });
-        let after = measure(asking(&[], &good, &[]), sheets);
+    let (labels, good) = ([OLD; 64], [OLD_NUMBER; 64]);
+    for (wrong, length) in [(0, 63), (1, 65), (2, 32), (3, 128)] {
+        let other = vec![OLD_NUMBER; length];
+        let sheets = std::array::from_fn(|i| if i == wrong { &other[..] } else { &good[..] });
+        let after = measure(asking(&[], &labels, &[]), sheets);
         assert_eq!(after.refusal, 2);
-        assert_eq!(after.labels, good);
+        assert_eq!(after.labels, labels);
     }
 }
 
 #[test]
 fn lists() {
-    let many: Vec<_> = (1..=5000).map(|id| marker(id, 0, 0)).collect();
+    let many: Vec<_> = (1..=9000).map(|id| marker(id, 0, 0)).collect();
     assert!(!bad_list(EIGHT, &many, MOST));
     assert!(bad_list(EIGHT, &many, MOST + 1));
     assert!(bad_list(EIGHT, &many[..3], 4));
@@ -73,9 +73,9 @@ fn entering_and_clearing() {
         done.list,
         [marker(3, 0, 0), marker(5, 2, 6), marker(7, 1, 1)]
     );
-    let full: Vec<_> = (1..=5000).map(|id| marker(id, 0, 0)).collect();
-    assert_eq!(enter(&full, MOST, EIGHT, 6000, (0, 0)).refusal, 7);
-    assert_eq!(enter(&full, MOST, EIGHT, 4096, (0, 0)).refusal, 5);
+    let full: Vec<_> = (1..=9000).map(|id| marker(id, 0, 0)).collect();
+    assert_eq!(enter(&full, MOST, EIGHT, 9999, (0, 0)).refusal, 7);
+    assert_eq!(enter(&full, MOST, EIGHT, 8192, (0, 0)).refusal, 5);
 
     let refused = clear(&list, 2, EIGHT, 5);
     assert_eq!((refused.refusal, refused.count), (6, 0));

@@ -21,14 +21,23 @@ number-of-requires c κs = let pre = c .before .before .before .pre in record { 
 number-of-requires-2 : tie.Need-number-of-requires-2 Inv-loop μ-loop
 number-of-requires-2 c κs = let pre = c .before .before .before .before .pre in record { sides = pre .fits .sides; on = search needs }
 
+mul-run-on : tie.Need-mul-run-on Inv-loop μ-loop
+mul-run-on c = omega (arith, c .number-of2 .ensures .small)
+
 slice-read-run-on : tie.Need-slice-read-run-on Inv-loop μ-loop
 slice-read-run-on c = omega (arith, c .before .before .before .before .loop .inv .1 .size)
+
+mul-run-on-2 : tie.Need-mul-run-on-2 Inv-loop μ-loop
+mul-run-on-2 c = omega (arith, c .before .before .number-of .ensures .small)
 
 slice-read-run-on-2 : tie.Need-slice-read-run-on-2 Inv-loop μ-loop
 slice-read-run-on-2 c = omega (arith, c .before .before .before .before .before .loop .inv .1 .size)
 
 run-on-requires : tie.Need-run-on-requires Inv-loop μ-loop
 run-on-requires c κs = search needs
+
+mul-out : tie.Need-mul-out Inv-loop μ-loop
+mul-out c = omega (arith, c .before .before .before .before .number-of .ensures .small)
 
 slice-write-out : tie.Need-slice-write-out Inv-loop μ-loop
 slice-write-out c = omega (arith, c .before .before .before .before .before .before .loop .inv .1 .size)
@@ -64,9 +73,12 @@ row-spec =
     loop-holds
     number-of-requires
     number-of-requires-2
+    mul-run-on
     slice-read-run-on
+    mul-run-on-2
     slice-read-run-on-2
     run-on-requires
+    mul-out
     slice-write-out
     add-x
     loop-less

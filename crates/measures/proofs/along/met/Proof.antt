@@ -20,6 +20,10 @@ loop-holds c = free-none (c .before .pre .within)
 further-requires : tie.Need-further-requires Inv-loop μ-loop
 further-requires c κs = line-room (c .before .before .before .pre .line) (c .before .loop .k) (omega arith)
 
+mul-if1 : tie.Need-mul-if1 Inv-loop μ-loop
+mul-if1 c =
+    omega (arith, c .further .ensures, c .before .before .before .before .pre .line .inside (c .before .before .loop .k) (omega arith))
+
 shared-slice-read-if1 : tie.Need-shared-slice-read-if1 Inv-loop μ-loop
 shared-slice-read-if1 c =
     omega (arith, c .before .further .ensures, c .before .before .before .before .before .pre .line .inside (c .before .before .before .loop .k) (omega arith))
@@ -52,6 +56,7 @@ met-spec =
     μ-loop
     loop-holds
     further-requires
+    mul-if1
     shared-slice-read-if1
     returns
     add-k

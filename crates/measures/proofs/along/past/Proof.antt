@@ -4,9 +4,9 @@ use Prim.Native.Nat.{ℕ, _+_, _-_}
 use native.Mathlib.Omega.{arith}
 use borrow.Author.Tests.{not-false}
 use Rattle.field.specs.Limits.{side-is}
-use Rattle.measures.specs.Eights.{AllAre}
+use Rattle.measures.specs.Fours.{AllAre}
 use Rattle.measures.specs.Running.{Past}
-use Rattle.measures.proofs.Lines.{line-room, eight-in}
+use Rattle.measures.proofs.Lines.{line-room, four-in}
 use Rattle.measures.proofs.Passing.{past-none, past-more}
 use Rattle.measures.proofs.along.past.Statement.{statement}
 use Rattle.measures.proofs.along.past.Tie as tie
@@ -24,11 +24,11 @@ add-loop : tie.Need-add-loop Inv-loop μ-loop
 add-loop c = omega (arith, c .before .before .pre .line .short, side-is)
 
 lowest-requires : tie.Need-lowest-requires Inv-loop μ-loop
-lowest-requires c κs = line-room (c .before .before .before .pre .line) (c .before .loop .k + 7) (omega arith)
+lowest-requires c κs = line-room (c .before .before .before .pre .line) (c .before .loop .k + 3) (omega arith)
 
 all-are-requires : tie.Need-all-are-requires Inv-loop μ-loop
 all-are-requires c κs =
-    omega (arith, c .lowest .ensures, eight-in (c .before .before .before .before .pre .line) (c .before .before .loop .k) (omega arith))
+    omega (arith, c .lowest .ensures, four-in (c .before .before .before .before .pre .line) (c .before .before .loop .k) (omega arith))
 
 returns : tie.Need-returns Inv-loop μ-loop
 returns c = c .before .before .before .before .loop .inv

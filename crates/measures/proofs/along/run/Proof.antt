@@ -28,8 +28,18 @@ add-last c =
     let pre = c .before .before .before .before .pre in
     omega (arith, from-le pre (loop .inv), pre .line .short, side-is)
 
+mul-last : tie.Need-mul-last Inv-loop μ-loop
+mul-last c =
+    let loop = c .before .before .loop in
+    omega (arith, c .further .ensures, from-in (c .before .before .before .before .pre) (loop .inv) (omega arith))
+
 slice-read-last : tie.Need-slice-read-last Inv-loop μ-loop
 slice-read-last c =
+    let loop = c .before .before .before .loop in
+    omega (arith, c .before .further .ensures, from-in (c .before .before .before .before .before .pre) (loop .inv) (omega arith))
+
+mul-out : tie.Need-mul-out Inv-loop μ-loop
+mul-out c =
     let loop = c .before .before .before .loop in
     omega (arith, c .before .further .ensures, from-in (c .before .before .before .before .before .pre) (loop .inv) (omega arith))
 
@@ -65,7 +75,9 @@ run-spec =
     loop-holds
     further-requires
     add-last
+    mul-last
     slice-read-last
+    mul-out
     slice-write-out
     add-k
     loop-less

@@ -24,6 +24,9 @@ shared-slice-read-own-of c = omega (arith, c .before .before .loop .inv .1 .size
 own-of-requires : tie.Need-own-of-requires Inv-loop μ-loop
 own-of-requires c κs = search needs
 
+mul-out : tie.Need-mul-out Inv-loop μ-loop
+mul-out c = omega arith
+
 slice-write-out : tie.Need-slice-write-out Inv-loop μ-loop
 slice-write-out c = omega arith
 
@@ -56,6 +59,7 @@ own-spec =
     loop-holds
     shared-slice-read-own-of
     own-of-requires
+    mul-out
     slice-write-out
     add-i
     loop-less
