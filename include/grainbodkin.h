@@ -11,6 +11,10 @@
  *
  * A crossing is (x, y), x rising to the east from 0, y rising to the north from 0. Its number is
  * y * width + x. Sheets and routes go by number.
+ *
+ * A marker makes its crossing a rock for a cart exactly if its height is greater than the cart's
+ * ground clearance. Every asking, and writing a map, takes the clearance of one cart: rocks, closed
+ * crossings and all that follows from them are that cart's.
  */
 #ifndef GRAINBODKIN_H
 #define GRAINBODKIN_H
@@ -33,10 +37,14 @@
 extern "C" {
 #endif
 
-/* The limits: width and height of a map, markers in use, and the number that says no distance. */
+/*
+ * The limits: width and height of a map, markers in use, the number that says no distance, and the
+ * greatest height and the greatest clearance, in centimetres, as every height and clearance is.
+ */
 #define BODKIN_SIDE 256
 #define BODKIN_MARKERS 8192
 #define BODKIN_NO_DISTANCE 65535
+#define BODKIN_TALLEST 65535
 
 /*
  * What they come to: the bytes or numbers of the largest sheet, the crossings of the longest drive,
@@ -88,7 +96,8 @@ enum bodkin_refusal {
                                     before a P1 raster's last digit */
     BODKIN_SHORT_RASTER = 14,    /* raster ends early */
     BODKIN_LONG_RASTER = 15,     /* bytes after the raster (in P1: other than blanks) */
-    BODKIN_SHARED_CROSSING = 16, /* two markers on one crossing, when writing */
+    BODKIN_SHARED_CROSSING = 16, /* two markers on one crossing, low ones included, when
+                                    writing */
     BODKIN_SHORT_OUTPUT = 17,    /* output too short for the whole file */
     BODKIN_BAD_LARGEST = 18,     /* a picture's largest value is neither BODKIN_LARGEST nor
                                     BODKIN_OLD_LARGEST */
@@ -108,11 +117,15 @@ enum bodkin_reason {
     BODKIN_WENT_ON = 7          /* the list went on after d */
 };
 
-/* A rock marker: an id, 1 to 65,535, and a crossing. Several may stand on one; each is kept. */
+/*
+ * A rock marker: an id, 1 to 65,535, a crossing, and a height, 0 to BODKIN_TALLEST. Several may
+ * stand on one crossing; each is kept, and the highest decides whether it is a rock.
+ */
 struct bodkin_marker {
     uint16_t id;
     uint16_t x;
     uint16_t y;
+    uint16_t height;
 };
 
 /* Answers. `refusal` is 0 or the refusal's number; at a refusal every other field is 0 or false. */
@@ -197,18 +210,24 @@ struct bodkin_sheet_read {
  * use. Slots past the count are never read. Apart from bodkin_enter, bodkin_clear and bodkin_read
  * no call changes a slot.
  *
+ * An asking takes `clearance`, the cart's, right after the map's width and height. Every clearance
+ * is allowed. With more of it, crossings only open: what is open for a cart is open for every
+ * higher one. One of BODKIN_TALLEST opens the whole map.
+ *
  * An id is sixteen bits wide, and C cuts a wider number silently: an `int` of 65537 clears marker
  * 1. Where ids come as wider numbers, use bodkin_enter_wide and bodkin_clear_wide, or -Wconversion.
+ * A height is cut so too, and one of 65536 would be 0, which stops no cart: -Wconversion warns.
  */
 
 /*
- * Enters a marker: puts it at its place by id, moves the later ones up by one, and hands back the
- * new count.
+ * Enters a marker of any height: puts it at its place by id, moves the later ones up by one, and
+ * hands back the new count.
  * Refuses 1, 3, 4, 5 or 7; then no slot changes.
  */
 BODKIN_ANSWER
 struct bodkin_counted bodkin_enter(struct bodkin_marker *list, size_t lent, size_t count,
-                                   size_t width, size_t height, uint16_t id, size_t x, size_t y);
+                                   size_t width, size_t height, uint16_t id, size_t x, size_t y,
+                                   uint16_t marker_height);
 
 /*
  * Clears the marker with this id: moves the later ones down, sets the one slot so freed to zeros,
@@ -221,13 +240,14 @@ struct bodkin_counted bodkin_clear(struct bodkin_marker *list, size_t lent, size
 
 /*
  * Labels the map: one byte a crossing into `labels`, and the numbers of rocks' crossings, shut
- * crossings and groups.
+ * crossings and groups. The last two may rise with the clearance, where a low stone between two
+ * high ones becomes a shut crossing, or no longer joins two groups.
  * Refuses 1, 2 or 3; then no byte changes.
  */
 BODKIN_ANSWER
 struct bodkin_labelling bodkin_label(const struct bodkin_marker *list, size_t lent, size_t count,
-                                     size_t width, size_t height, uint8_t *labels,
-                                     size_t labels_len);
+                                     size_t width, size_t height, uint16_t clearance,
+                                     uint8_t *labels, size_t labels_len);
 
 /*
  * The four clear distances of (x, y), east, south, west, north: the hops to the nearest closed
@@ -237,8 +257,8 @@ struct bodkin_labelling bodkin_label(const struct bodkin_marker *list, size_t le
  */
 BODKIN_ANSWER
 struct bodkin_four bodkin_distances(const struct bodkin_marker *list, size_t lent, size_t count,
-                                    size_t width, size_t height, size_t x, size_t y,
-                                    uint8_t *labels, size_t labels_len);
+                                    size_t width, size_t height, uint16_t clearance, size_t x,
+                                    size_t y, uint8_t *labels, size_t labels_len);
 
 /*
  * The clear distances of the whole map, one sheet a way, of one sixteen-bit number a crossing. The
@@ -247,9 +267,9 @@ struct bodkin_four bodkin_distances(const struct bodkin_marker *list, size_t len
  */
 BODKIN_ANSWER
 uint8_t bodkin_measure(const struct bodkin_marker *list, size_t lent, size_t count, size_t width,
-                       size_t height, uint8_t *labels, size_t labels_len, uint16_t *east,
-                       size_t east_len, uint16_t *south, size_t south_len, uint16_t *west,
-                       size_t west_len, uint16_t *north, size_t north_len);
+                       size_t height, uint16_t clearance, uint8_t *labels, size_t labels_len,
+                       uint16_t *east, size_t east_len, uint16_t *south, size_t south_len,
+                       uint16_t *west, size_t west_len, uint16_t *north, size_t north_len);
 
 /*
  * Whether home (hx, hy) is assured for the place (x, y): both are open and, on each axis, the
@@ -259,21 +279,24 @@ uint8_t bodkin_measure(const struct bodkin_marker *list, size_t lent, size_t cou
  */
 BODKIN_ANSWER
 struct bodkin_assurance bodkin_assured(const struct bodkin_marker *list, size_t lent, size_t count,
-                                       size_t width, size_t height, size_t hx, size_t hy, size_t x,
-                                       size_t y, uint8_t *labels, size_t labels_len);
+                                       size_t width, size_t height, uint16_t clearance, size_t hx,
+                                       size_t hy, size_t x, size_t y, uint8_t *labels,
+                                       size_t labels_len);
 
 /*
  * Every permitted hop from (x, y) towards home (hx, hy), the east-west one first; at home none. A
  * cart that starts where home is assured and takes such hops, whichever it takes, is home after
- * exactly the east-west plus north-south distance, as long as the markers stay the same on its way.
+ * exactly the east-west plus north-south distance, as long as the markers stay the same on its way
+ * and each hop is asked with its clearance.
  * The label sheet holds the labels.
  * Refuses 1, 2, 3 or 4, and then no byte changes; or 8 or 11, and then the label sheet holds the
  * labels.
  */
 BODKIN_ANSWER
 struct bodkin_homeward bodkin_hop(const struct bodkin_marker *list, size_t lent, size_t count,
-                                  size_t width, size_t height, size_t hx, size_t hy, size_t x,
-                                  size_t y, uint8_t *labels, size_t labels_len);
+                                  size_t width, size_t height, uint16_t clearance, size_t hx,
+                                  size_t hy, size_t x, size_t y, uint8_t *labels,
+                                  size_t labels_len);
 
 /*
  * The region: 1 in `region` for each crossing on at least one shortest drive from (sx, sy) to
@@ -283,8 +306,9 @@ struct bodkin_homeward bodkin_hop(const struct bodkin_marker *list, size_t lent,
  */
 BODKIN_ANSWER
 uint8_t bodkin_region(const struct bodkin_marker *list, size_t lent, size_t count, size_t width,
-                      size_t height, size_t sx, size_t sy, size_t dx, size_t dy, uint8_t *labels,
-                      size_t labels_len, uint8_t *region, size_t region_len);
+                      size_t height, uint16_t clearance, size_t sx, size_t sy, size_t dx,
+                      size_t dy, uint8_t *labels, size_t labels_len, uint8_t *region,
+                      size_t region_len);
 
 /*
  * A shortest drive from (sx, sy) to (dx, dy): crossing numbers at the front of `route`, s first and
@@ -296,10 +320,10 @@ uint8_t bodkin_region(const struct bodkin_marker *list, size_t lent, size_t coun
  */
 BODKIN_ANSWER
 struct bodkin_drove bodkin_drive(const struct bodkin_marker *list, size_t lent, size_t count,
-                                 size_t width, size_t height, size_t sx, size_t sy, size_t dx,
-                                 size_t dy, uint8_t *labels, size_t labels_len, uint8_t *region,
-                                 size_t region_len, uint16_t *route, size_t route_len,
-                                 uint32_t *state);
+                                 size_t width, size_t height, uint16_t clearance, size_t sx,
+                                 size_t sy, size_t dx, size_t dy, uint8_t *labels,
+                                 size_t labels_len, uint8_t *region, size_t region_len,
+                                 uint16_t *route, size_t route_len, uint32_t *state);
 
 /*
  * Checks a drawn list, crossing numbers in order: accepted exactly if it is a shortest drive from
@@ -310,9 +334,9 @@ struct bodkin_drove bodkin_drive(const struct bodkin_marker *list, size_t lent, 
  */
 BODKIN_ANSWER
 struct bodkin_checked bodkin_check(const struct bodkin_marker *list, size_t lent, size_t count,
-                                   size_t width, size_t height, size_t sx, size_t sy, size_t dx,
-                                   size_t dy, uint8_t *labels, size_t labels_len,
-                                   const uint16_t *drawn, size_t drawn_len);
+                                   size_t width, size_t height, uint16_t clearance, size_t sx,
+                                   size_t sy, size_t dx, size_t dy, uint8_t *labels,
+                                   size_t labels_len, const uint16_t *drawn, size_t drawn_len);
 
 /*
  * Whether (sx, sy) and (dx, dy) have crossing lines: a column between them, ends included, and a
@@ -323,9 +347,9 @@ struct bodkin_checked bodkin_check(const struct bodkin_marker *list, size_t lent
  */
 BODKIN_ANSWER
 struct bodkin_crossing_lines bodkin_lines(const struct bodkin_marker *list, size_t lent,
-                                          size_t count, size_t width, size_t height, size_t sx,
-                                          size_t sy, size_t dx, size_t dy, uint8_t *labels,
-                                          size_t labels_len);
+                                          size_t count, size_t width, size_t height,
+                                          uint16_t clearance, size_t sx, size_t sy, size_t dx,
+                                          size_t dy, uint8_t *labels, size_t labels_len);
 
 /*
  * The drive from (sx, sy) to (dx, dy) by way of the crossing where the lines that bodkin_lines
@@ -338,15 +362,15 @@ struct bodkin_crossing_lines bodkin_lines(const struct bodkin_marker *list, size
  */
 BODKIN_ANSWER
 struct bodkin_drove bodkin_lines_drive(const struct bodkin_marker *list, size_t lent, size_t count,
-                                       size_t width, size_t height, size_t sx, size_t sy,
-                                       size_t dx, size_t dy, uint8_t *labels, size_t labels_len,
-                                       uint8_t *region, size_t region_len, uint16_t *route,
-                                       size_t route_len, uint32_t *state);
+                                       size_t width, size_t height, uint16_t clearance, size_t sx,
+                                       size_t sy, size_t dx, size_t dy, uint8_t *labels,
+                                       size_t labels_len, uint8_t *region, size_t region_len,
+                                       uint16_t *route, size_t route_len, uint32_t *state);
 
 /*
  * Reads a PBM map, P1 or P4. Its rocks become markers with ids 1, 2, 3 and on, in raster order, in
- * the first slots; other slots stay. Hands back width, height and the new count. A map with over
- * BODKIN_MARKERS rocks is refused 7, however long the list.
+ * the first slots, each of height BODKIN_TALLEST; other slots stay. Hands back width, height and
+ * the new count. A map with over BODKIN_MARKERS rocks is refused 7, however long the list.
  * Refuses 12, then 13 in the header, 1, then at the first fault met in the raster 13, 14 or 15,
  * then 7; no slot changes then.
  */
@@ -355,13 +379,15 @@ struct bodkin_read_map bodkin_read(const uint8_t *file, size_t file_len, struct 
                                    size_t lent);
 
 /*
- * Writes the list as a PBM map, P4, and hands back the number of bytes written, at most
- * BODKIN_FILE. Bytes past the end stay. A file keeps neither ids nor two markers on one crossing.
+ * Writes the rocks of a cart of this clearance as a PBM map, P4, and hands back the number of bytes
+ * written, at most BODKIN_FILE. Bytes past the end stay. A file keeps neither ids nor heights, nor
+ * two markers on one crossing: 16 looks at all markers, low ones included.
  * Refuses 1, 3, 16 or 17; then no byte changes.
  */
 BODKIN_ANSWER
 struct bodkin_wrote_map bodkin_write(const struct bodkin_marker *list, size_t lent, size_t count,
-                                     size_t width, size_t height, uint8_t *out, size_t out_len);
+                                     size_t width, size_t height, uint16_t clearance,
+                                     uint8_t *out, size_t out_len);
 
 /*
  * Writes a sheet of one sixteen-bit number a crossing as a raw PGM picture, P5, with largest value
@@ -393,9 +419,10 @@ struct bodkin_sheet_read bodkin_read_sheet(const uint8_t *file, size_t file_len,
 BODKIN_ANSWER
 static inline struct bodkin_counted bodkin_enter_wide(struct bodkin_marker *list, size_t lent,
                                                       size_t count, size_t width, size_t height,
-                                                      uint64_t id, size_t x, size_t y) {
+                                                      uint64_t id, size_t x, size_t y,
+                                                      uint16_t marker_height) {
     return bodkin_enter(list, lent, count, width, height, (uint16_t)(id > UINT16_MAX ? 0 : id), x,
-                        y);
+                        y, marker_height);
 }
 
 BODKIN_ANSWER

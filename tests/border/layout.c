@@ -20,6 +20,7 @@ static void structs(void) {
     FIELD(marker, id);
     FIELD(marker, x);
     FIELD(marker, y);
+    FIELD(marker, height);
     STRUCT(counted);
     FIELD(counted, refusal);
     FIELD(counted, count);
@@ -73,7 +74,7 @@ static void structs(void) {
 int main(void) {
     structs();
     printf("side %d\nmarkers %d\n", BODKIN_SIDE, BODKIN_MARKERS);
-    printf("no distance %d\n", BODKIN_NO_DISTANCE);
+    printf("no distance %d\ntallest %d\n", BODKIN_NO_DISTANCE, BODKIN_TALLEST);
     printf("crossings %d\nroute %d\nfile %d\n", BODKIN_CROSSINGS, BODKIN_ROUTE, BODKIN_FILE);
     printf("picture %d\nlargest %d\n", BODKIN_PICTURE, BODKIN_LARGEST);
     printf("old largest %d\n", BODKIN_OLD_LARGEST);

@@ -36,15 +36,19 @@ static struct lent {
 /* What a call is asked with, apart from the buffers. */
 static struct asking {
     size_t lent, count, width, height, labels, region, four[4], route, hx, hy, x, y;
+    uint16_t clearance;
 } q;
 
-/* Three rocks, called R in document 01; home (0,2), place (2,5). */
+/* A marker as high as can be, which stops a cart of no clearance. */
+static struct bodkin_marker rock(uint16_t id, size_t x, size_t y) { return (struct bodkin_marker){id, (uint16_t)x, (uint16_t)y, BODKIN_TALLEST}; }
+
+/* Three rocks, called R in document 01; home (0,2), place (2,5); a cart of no clearance. */
 static void set(void) {
     memset(&now, NOISE, sizeof now);
-    now.list[0] = (struct bodkin_marker){1, 3, 2};
-    now.list[1] = (struct bodkin_marker){2, 4, 3};
-    now.list[2] = (struct bodkin_marker){3, 5, 2};
-    q = (struct asking){SLOTS, 3, SIDE, SIDE, SHEET, SHEET, {SHEET, SHEET, SHEET, SHEET}, ROUTE, 0, 2, 2, 5};
+    now.list[0] = rock(1, 3, 2);
+    now.list[1] = rock(2, 4, 3);
+    now.list[2] = rock(3, 5, 2);
+    q = (struct asking){SLOTS, 3, SIDE, SIDE, SHEET, SHEET, {SHEET, SHEET, SHEET, SHEET}, ROUTE, 0, 2, 2, 5, 0};
 }
 
 static void keep(void) { memcpy(&before, &now, sizeof now); }
@@ -94,7 +98,7 @@ static uint8_t zeros(uint8_t refusal, size_t others) {
 }
 
 static uint8_t enter(void) {
-    struct bodkin_counted r = bodkin_enter(now.list, q.lent, q.count, q.width, q.height, 9, q.x, q.y);
+    struct bodkin_counted r = bodkin_enter(now.list, q.lent, q.count, q.width, q.height, 9, q.x, q.y, BODKIN_TALLEST);
     return zeros(r.refusal, r.count);
 }
 
@@ -104,42 +108,42 @@ static uint8_t clear(void) {
 }
 
 static uint8_t label(void) {
-    struct bodkin_labelling r = bodkin_label(now.list, q.lent, q.count, q.width, q.height, now.labels, q.labels);
+    struct bodkin_labelling r = bodkin_label(now.list, q.lent, q.count, q.width, q.height, q.clearance, now.labels, q.labels);
     return zeros(r.refusal, r.rocks | r.shut | r.groups);
 }
 
 static uint8_t distances(void) {
-    struct bodkin_four r = bodkin_distances(now.list, q.lent, q.count, q.width, q.height, q.x, q.y, now.labels, q.labels);
+    struct bodkin_four r = bodkin_distances(now.list, q.lent, q.count, q.width, q.height, q.clearance, q.x, q.y, now.labels, q.labels);
     return zeros(r.refusal, r.four[0] | r.four[1] | r.four[2] | r.four[3]);
 }
 
 static uint8_t measure(void) {
-    return bodkin_measure(now.list, q.lent, q.count, q.width, q.height, now.labels, q.labels, now.four[0], q.four[0], now.four[1], q.four[1], now.four[2],
-                          q.four[2], now.four[3], q.four[3]);
+    return bodkin_measure(now.list, q.lent, q.count, q.width, q.height, q.clearance, now.labels, q.labels, now.four[0], q.four[0], now.four[1],
+                          q.four[1], now.four[2], q.four[2], now.four[3], q.four[3]);
 }
 
 static uint8_t assured(void) {
-    struct bodkin_assurance r = bodkin_assured(now.list, q.lent, q.count, q.width, q.height, q.hx, q.hy, q.x, q.y, now.labels, q.labels);
+    struct bodkin_assurance r = bodkin_assured(now.list, q.lent, q.count, q.width, q.height, q.clearance, q.hx, q.hy, q.x, q.y, now.labels, q.labels);
     return zeros(r.refusal, r.assured);
 }
 
 static uint8_t hop(void) {
-    struct bodkin_homeward r = bodkin_hop(now.list, q.lent, q.count, q.width, q.height, q.hx, q.hy, q.x, q.y, now.labels, q.labels);
+    struct bodkin_homeward r = bodkin_hop(now.list, q.lent, q.count, q.width, q.height, q.clearance, q.hx, q.hy, q.x, q.y, now.labels, q.labels);
     return zeros(r.refusal, r.hops | r.x | r.y | r.a | r.b);
 }
 
 static uint8_t region(void) {
-    return bodkin_region(now.list, q.lent, q.count, q.width, q.height, q.hx, q.hy, q.x, q.y, now.labels, q.labels, now.region, q.region);
+    return bodkin_region(now.list, q.lent, q.count, q.width, q.height, q.clearance, q.hx, q.hy, q.x, q.y, now.labels, q.labels, now.region, q.region);
 }
 
 static uint8_t drive(void) {
-    struct bodkin_drove r = bodkin_drive(now.list, q.lent, q.count, q.width, q.height, q.hx, q.hy, q.x, q.y, now.labels, q.labels, now.region, q.region,
-                                         now.route, q.route, &now.state);
+    struct bodkin_drove r = bodkin_drive(now.list, q.lent, q.count, q.width, q.height, q.clearance, q.hx, q.hy, q.x, q.y, now.labels, q.labels,
+                                         now.region, q.region, now.route, q.route, &now.state);
     return zeros(r.refusal, r.length);
 }
 
 static uint8_t write_map(void) {
-    struct bodkin_wrote_map r = bodkin_write(now.list, q.lent, q.count, q.width, q.height, now.out, FILE_BYTES);
+    struct bodkin_wrote_map r = bodkin_write(now.list, q.lent, q.count, q.width, q.height, q.clearance, now.out, FILE_BYTES);
     return zeros(r.refusal, r.bytes);
 }
 
@@ -210,7 +214,7 @@ static void distance_sheets(const struct call *call) {
 
 static void lists(const struct call *call) {
     static const size_t bad[] = {SLOTS + 1, BODKIN_MARKERS + 1, SIZE_MAX};
-    static const struct bodkin_marker wrong[] = {{0, 4, 3}, {1, 4, 3}, {3, 4, 3}, {4, 4, 3}, {2, SIDE, 3}, {2, 4, SIDE}, {2, 0xFFFF, 0xFFFF}};
+    static const uint16_t wrong[][3] = {{0, 4, 3}, {1, 4, 3}, {3, 4, 3}, {4, 4, 3}, {2, SIDE, 3}, {2, 4, SIDE}, {2, 0xFFFF, 0xFFFF}};
     for (size_t i = 0; i < 3; i++) {
         set();
         q.count = bad[i];
@@ -219,8 +223,12 @@ static void lists(const struct call *call) {
     }
     for (size_t i = 0; i < sizeof wrong / sizeof *wrong; i++) {
         set();
-        now.list[1] = wrong[i];
+        now.list[1] = rock(wrong[i][0], wrong[i][1], wrong[i][2]);
         refused(call, BODKIN_BAD_LIST, "an id 0, equal or falling, or a marker off the map");
+        now.list[1].height = 0;
+        refused(call, BODKIN_BAD_LIST, "the same of a marker that stops no cart");
+        q.clearance = BODKIN_TALLEST;
+        refused(call, BODKIN_BAD_LIST, "and for a cart that nothing stops");
     }
     set();
     now.list[0].id = 0;
@@ -236,7 +244,7 @@ static void lists(const struct call *call) {
  */
 static void set_many(size_t count) {
     set();
-    for (size_t i = 3; i < ALL_SLOTS; i++) now.list[i] = (struct bodkin_marker){(uint16_t)(i + 10), now.list[i % 3].x, now.list[i % 3].y};
+    for (size_t i = 3; i < ALL_SLOTS; i++) now.list[i] = rock((uint16_t)(i + 10), now.list[i % 3].x, now.list[i % 3].y);
     q.lent = ALL_SLOTS;
     q.count = count;
 }
@@ -313,42 +321,42 @@ static void routes(void) {
 static void list_calls(void) {
     set();
     keep();
-    struct bodkin_counted entered = bodkin_enter(now.list, SLOTS, 3, SIDE, SIDE, 2, 0, 0);
+    struct bodkin_counted entered = bodkin_enter(now.list, SLOTS, 3, SIDE, SIDE, 2, 0, 0, BODKIN_TALLEST);
     expect(entered.refusal == BODKIN_ID_IN_USE && only(NOTHING), "entering an id in use: refused 5");
-    entered = bodkin_enter(now.list, SLOTS, 3, SIDE, SIDE, 0, 0, 0);
+    entered = bodkin_enter(now.list, SLOTS, 3, SIDE, SIDE, 0, 0, 0, BODKIN_TALLEST);
     expect(entered.refusal == BODKIN_BAD_PLACE && only(NOTHING), "a new id of 0: refused 4");
-    entered = bodkin_enter(now.list, 3, 3, SIDE, SIDE, 9, 0, 0);
+    entered = bodkin_enter(now.list, 3, 3, SIDE, SIDE, 9, 0, 0, BODKIN_TALLEST);
     expect(entered.refusal == BODKIN_NO_SLOT && only(NOTHING), "no slot: refused 7");
     struct bodkin_counted cleared = bodkin_clear(now.list, SLOTS, 3, SIDE, SIDE, 4);
     expect(cleared.refusal == BODKIN_ID_NOT_IN_USE && only(NOTHING), "clearing an id not in use: refused 6");
-    entered = bodkin_enter(now.list, SLOTS, 3, SIDE, SIDE, 9, 3, 2);
-    before.list[3] = (struct bodkin_marker){9, 3, 2};
+    entered = bodkin_enter(now.list, SLOTS, 3, SIDE, SIDE, 9, 3, 2, BODKIN_TALLEST);
+    before.list[3] = rock(9, 3, 2);
     expect(entered.refusal == 0 && entered.count == 4 && only(NOTHING), "a second marker on a rock's crossing is kept, and nothing else changed");
     cleared = bodkin_clear(now.list, SLOTS, 4, SIDE, SIDE, 1);
     memmove(before.list, before.list + 1, 3 * sizeof *before.list);
-    before.list[3] = (struct bodkin_marker){0, 0, 0};
+    before.list[3] = (struct bodkin_marker){0, 0, 0, 0};
     expect(cleared.refusal == 0 && cleared.count == 3 && only(NOTHING), "clearing moves the later ones down and sets the freed slot to zeros");
 }
 
 static void last_slot(void) {
     set_many(BODKIN_MARKERS - 1);
-    struct bodkin_counted entered = bodkin_enter(now.list, ALL_SLOTS, q.count, SIDE, SIDE, 9, 0, 0);
+    struct bodkin_counted entered = bodkin_enter(now.list, ALL_SLOTS, q.count, SIDE, SIDE, 9, 0, 0, BODKIN_TALLEST);
     expect(entered.refusal == 0 && entered.count == BODKIN_MARKERS && now.list[3].id == 9, "the 8,192nd marker is entered");
 }
 
 static void askings(void) {
     set();
     keep();
-    struct bodkin_labelling labelling = bodkin_label(now.list, SLOTS, 3, SIDE, SIDE, now.labels, SHEET);
+    struct bodkin_labelling labelling = bodkin_label(now.list, SLOTS, 3, SIDE, SIDE, q.clearance, now.labels, SHEET);
     expect(labelling.refusal == 0 && labelling.rocks == 3 && labelling.shut == 3 && labelling.groups == 1 && labelled() && only(LABELS),
            "R: three rocks, three shut, one group");
-    struct bodkin_four four = bodkin_distances(now.list, SLOTS, 3, SIDE, SIDE, 0, 2, now.labels, SHEET);
+    struct bodkin_four four = bodkin_distances(now.list, SLOTS, 3, SIDE, SIDE, q.clearance, 0, 2, now.labels, SHEET);
     expect(four.four[0] == 3 && four.four[1] == 65535 && four.four[2] == 65535 && four.four[3] == 65535 && only(LABELS),
            "R: (0,2) has 3, 65535, 65535, 65535");
     expect(measure() == 0 && only(LABELS | FOUR) && now.four[0][2 * SIDE] == 3 && now.four[3][4] == 2 && now.four[2][2 * SIDE + 4] == 0,
            "the same of the whole map");
-    expect(bodkin_assured(now.list, SLOTS, 3, SIDE, SIDE, 0, 2, 2, 5, now.labels, SHEET).assured && only(LABELS), "assured for (2,5)");
-    struct bodkin_homeward home = bodkin_hop(now.list, SLOTS, 3, SIDE, SIDE, 0, 2, 2, 2, now.labels, SHEET);
+    expect(bodkin_assured(now.list, SLOTS, 3, SIDE, SIDE, q.clearance, 0, 2, 2, 5, now.labels, SHEET).assured && only(LABELS), "assured for (2,5)");
+    struct bodkin_homeward home = bodkin_hop(now.list, SLOTS, 3, SIDE, SIDE, q.clearance, 0, 2, 2, 2, now.labels, SHEET);
     expect(home.hops == 1 && home.x == 1 && home.y == 2 && home.a == 0 && home.b == 0 && only(LABELS), "one hop from (2,2) to home (0,2)");
     size_t in = 0;
     q.hx = q.hy = 0, q.x = 7, q.y = 3;
@@ -361,21 +369,21 @@ static void files(void) {
     static const uint8_t file[FILE_BYTES] = {'P', '4', '\n', '8', ' ', '8', '\n', 0, 0, 0, 0, 8, 0x14, 0, 0};
     set();
     keep();
-    struct bodkin_wrote_map wrote = bodkin_write(now.list, SLOTS, 3, SIDE, SIDE, now.out, FILE_BYTES + 1);
+    struct bodkin_wrote_map wrote = bodkin_write(now.list, SLOTS, 3, SIDE, SIDE, q.clearance, now.out, FILE_BYTES + 1);
     memcpy(before.out, file, FILE_BYTES);
     expect(wrote.refusal == 0 && wrote.bytes == FILE_BYTES && only(NOTHING), "R written, the byte past its end unchanged");
-    wrote = bodkin_write(now.list, SLOTS, 3, SIDE, SIDE, now.out, FILE_BYTES - 1);
+    wrote = bodkin_write(now.list, SLOTS, 3, SIDE, SIDE, q.clearance, now.out, FILE_BYTES - 1);
     expect(wrote.refusal == BODKIN_SHORT_OUTPUT && only(NOTHING), "an output one byte short: refused 17");
-    now.list[1] = (struct bodkin_marker){2, 3, 2};
+    now.list[1] = rock(2, 3, 2);
     keep();
-    wrote = bodkin_write(now.list, SLOTS, 3, SIDE, SIDE, now.out, 0);
+    wrote = bodkin_write(now.list, SLOTS, 3, SIDE, SIDE, q.clearance, now.out, 0);
     expect(wrote.refusal == BODKIN_SHARED_CROSSING && only(NOTHING), "two markers on one crossing: refused 16, and before 17");
     struct bodkin_read_map map = bodkin_read(file, FILE_BYTES, now.list, 2);
     expect(map.refusal == BODKIN_NO_SLOT && map.width == 0 && map.height == 0 && map.count == 0 && only(NOTHING), "no slot for the third rock: refused 7");
     map = bodkin_read(file, FILE_BYTES, now.list, SLOTS);
-    before.list[0] = (struct bodkin_marker){1, 4, 3};
-    before.list[1] = (struct bodkin_marker){2, 3, 2};
-    before.list[2] = (struct bodkin_marker){3, 5, 2};
+    before.list[0] = rock(1, 4, 3);
+    before.list[1] = rock(2, 3, 2);
+    before.list[2] = rock(3, 5, 2);
     expect(map.refusal == 0 && map.width == SIDE && map.height == SIDE && map.count == 3 && only(NOTHING), "read again, in raster order, other slots unchanged");
 }
 

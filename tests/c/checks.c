@@ -11,7 +11,7 @@
 
 enum { SIDE = 8, SHEET = SIDE * SIDE, LONG = 1000000 };
 
-static struct bodkin_marker r[3] = {{1, 3, 2}, {2, 4, 3}, {3, 5, 2}};
+static struct bodkin_marker r[3] = {{1, 3, 2, 9}, {2, 4, 3, 9}, {3, 5, 2, 9}};
 static uint8_t labels[SHEET];
 
 struct row {
@@ -52,7 +52,7 @@ static const struct row rows[] = {
 
 static struct bodkin_checked ask(size_t rocks, const size_t s[2], const size_t d[2], const uint16_t *drawn, size_t length) {
     memset(labels, 9, sizeof labels);
-    return bodkin_check(r, 3, rocks, SIDE, SIDE, s[0], s[1], d[0], d[1], labels, SHEET, drawn, length);
+    return bodkin_check(r, 3, rocks, SIDE, SIDE, 0, s[0], s[1], d[0], d[1], labels, SHEET, drawn, length);
 }
 
 /* Every byte of the label sheet is a label, or none is touched. */
@@ -88,9 +88,9 @@ static void refusals(void) {
     expect(found.refusal == BODKIN_END_CLOSED && labelled(3), "d closed: refused 8, the label sheet holds the labels");
     found = ask(4, s, d, drawn, 1);
     expect(found.refusal == BODKIN_BAD_LIST && untouched(), "a count over the list lent: refused 3");
-    found = bodkin_check(r, 3, 3, SIDE, SIDE, 0, 2, 7, 4, labels, SHEET - 1, drawn, 1);
+    found = bodkin_check(r, 3, 3, SIDE, SIDE, 0, 0, 2, 7, 4, labels, SHEET - 1, drawn, 1);
     expect(found.refusal == BODKIN_BAD_SHEET && untouched(), "a short label sheet: refused 2");
-    found = bodkin_check(r, 3, 3, 0, SIDE, 0, 2, 7, 4, labels, SHEET, drawn, 1);
+    found = bodkin_check(r, 3, 3, 0, SIDE, 0, 0, 2, 7, 4, labels, SHEET, drawn, 1);
     expect(found.refusal == BODKIN_BAD_SIZE && untouched(), "a width of 0: refused 1");
     const size_t east[2] = {7, 2};
     found = ask(3, s, east, drawn, 1);
@@ -105,7 +105,7 @@ static void own_drives(void) {
     bool all = true;
     for (uint32_t z = 0; z < 1000; z++) {
         uint32_t state = z;
-        struct bodkin_drove drove = bodkin_drive(r, 3, 3, SIDE, SIDE, s[0], s[1], d[0], d[1], labels, SHEET, region, SHEET, route, 2 * SIDE, &state);
+        struct bodkin_drove drove = bodkin_drive(r, 3, 3, SIDE, SIDE, 0, s[0], s[1], d[0], d[1], labels, SHEET, region, SHEET, route, 2 * SIDE, &state);
         struct bodkin_checked found = ask(3, s, d, route, drove.length);
         all = all && drove.length == 10 && !found.refusal && !found.reason && !found.position;
     }

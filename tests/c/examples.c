@@ -15,11 +15,11 @@ static struct bodkin_labelling labelling;
 static uint8_t labels[CROSSINGS], region[CROSSINGS];
 static uint16_t route[CROSSINGS];
 
-static void enter(uint16_t id, size_t x, size_t y) { count = bodkin_enter(list, SLOTS, count, SIDE, SIDE, id, x, y).count; }
+static void enter(uint16_t id, size_t x, size_t y) { count = bodkin_enter(list, SLOTS, count, SIDE, SIDE, id, x, y, BODKIN_TALLEST).count; }
 
 static void clear(uint16_t id) { count = bodkin_clear(list, SLOTS, count, SIDE, SIDE, id).count; }
 
-static void label(void) { labelling = bodkin_label(list, SLOTS, count, SIDE, SIDE, labels, CROSSINGS); }
+static void label(void) { labelling = bodkin_label(list, SLOTS, count, SIDE, SIDE, 0, labels, CROSSINGS); }
 
 static int at(size_t x, size_t y) { return labels[y * SIDE + x]; }
 
@@ -37,11 +37,11 @@ static void example_12(void) {
     uint32_t state = 0;
     count = 0;
     route[0] = 9;
-    struct bodkin_drove drove = bodkin_drive(list, SLOTS, count, 1, 1, 0, 0, 0, 0, labels, 1, region, 1, route, 1, &state);
+    struct bodkin_drove drove = bodkin_drive(list, SLOTS, count, 1, 1, 0, 0, 0, 0, 0, labels, 1, region, 1, route, 1, &state);
     expect(drove.refusal == 0 && drove.length == 1 && route[0] == 0 && state == 0,
            "map 1 by 1 without rocks: (0,0) to itself is a drive of one crossing");
-    count = bodkin_enter(list, SLOTS, count, 1, 1, 1, 0, 0).count;
-    drove = bodkin_drive(list, SLOTS, count, 1, 1, 0, 0, 0, 0, labels, 1, region, 1, route, 1, &state);
+    count = bodkin_enter(list, SLOTS, count, 1, 1, 1, 0, 0, BODKIN_TALLEST).count;
+    drove = bodkin_drive(list, SLOTS, count, 1, 1, 0, 0, 0, 0, 0, labels, 1, region, 1, route, 1, &state);
     expect(drove.refusal == BODKIN_END_CLOSED && drove.length == 0, "with a rock, 8");
 }
 
@@ -54,7 +54,7 @@ static void markers_kept_apart(void) {
     clear(2);
     label();
     expect(count == 2 && at(3, 3) == BODKIN_ROCK && at(4, 3) == BODKIN_ROCK, "clearing one of two markers on a crossing leaves the rock");
-    expect(list[2].id == 0 && list[2].x == 0 && list[2].y == 0, "the slot so freed holds zeros");
+    expect(list[2].id == 0 && list[2].x == 0 && list[2].y == 0 && list[2].height == 0, "the slot so freed holds zeros");
 }
 
 static void shut_on_one_axis(void) {
@@ -86,7 +86,7 @@ static void not_by_open_neighbours_alone(void) {
     enter_r();
     for (uint32_t z = 0; z < 200; z++) {
         uint32_t state = z * 2654435761u;
-        struct bodkin_drove drove = bodkin_drive(list, SLOTS, count, SIDE, SIDE, 0, 0, 7, 3, labels, CROSSINGS, region, CROSSINGS, route, CROSSINGS, &state);
+        struct bodkin_drove drove = bodkin_drive(list, SLOTS, count, SIDE, SIDE, 0, 0, 0, 7, 3, labels, CROSSINGS, region, CROSSINGS, route, CROSSINGS, &state);
         arrives &= drove.refusal == 0 && drove.length == 11 && route[10] == 3 * SIDE + 7;
         for (size_t i = 0; i < drove.length; i++) strands |= route[i] == 3 * SIDE + 2;
     }
@@ -95,17 +95,17 @@ static void not_by_open_neighbours_alone(void) {
 
 static void way_home(void) {
     enter_r();
-    struct bodkin_assurance home = bodkin_assured(list, SLOTS, count, SIDE, SIDE, 0, 2, 2, 5, labels, CROSSINGS);
+    struct bodkin_assurance home = bodkin_assured(list, SLOTS, count, SIDE, SIDE, 0, 0, 2, 2, 5, labels, CROSSINGS);
     expect(home.refusal == 0 && home.assured, "R, home (0,2): assured for (2,5)");
-    home = bodkin_assured(list, SLOTS, count, SIDE, SIDE, 0, 2, 3, 5, labels, CROSSINGS);
+    home = bodkin_assured(list, SLOTS, count, SIDE, SIDE, 0, 0, 2, 3, 5, labels, CROSSINGS);
     expect(home.refusal == 0 && home.assured, "for (3,5), whose offset equals home's distance");
-    home = bodkin_assured(list, SLOTS, count, SIDE, SIDE, 0, 2, 4, 5, labels, CROSSINGS);
+    home = bodkin_assured(list, SLOTS, count, SIDE, SIDE, 0, 0, 2, 4, 5, labels, CROSSINGS);
     expect(home.refusal == 0 && !home.assured, "not for (4,5)");
-    struct bodkin_homeward one = bodkin_hop(list, SLOTS, count, SIDE, SIDE, 0, 2, 3, 4, labels, CROSSINGS);
+    struct bodkin_homeward one = bodkin_hop(list, SLOTS, count, SIDE, SIDE, 0, 0, 2, 3, 4, labels, CROSSINGS);
     expect(one.hops == 1 && one.x == 2 && one.y == 4, "from (3,4), above the block, the one hop leaves its column");
-    struct bodkin_homeward two = bodkin_hop(list, SLOTS, count, SIDE, SIDE, 0, 2, 2, 5, labels, CROSSINGS);
+    struct bodkin_homeward two = bodkin_hop(list, SLOTS, count, SIDE, SIDE, 0, 0, 2, 2, 5, labels, CROSSINGS);
     expect(two.hops == 2 && two.x == 1 && two.y == 5 && two.a == 2 && two.b == 4, "two hops are permitted from (2,5), the east-west one first");
-    struct bodkin_homeward there = bodkin_hop(list, SLOTS, count, SIDE, SIDE, 0, 2, 0, 2, labels, CROSSINGS);
+    struct bodkin_homeward there = bodkin_hop(list, SLOTS, count, SIDE, SIDE, 0, 0, 2, 0, 2, labels, CROSSINGS);
     expect(there.refusal == 0 && there.hops == 0, "at home there is none");
 }
 

@@ -80,17 +80,17 @@ static bool same_map(const char *raster) {
     return raster[k] == 0;
 }
 
-/* Slots from k on are as they were, and the ids before them are 1, 2, 3 and on. */
+/* Slots from k on are as they were; the ids before them are 1, 2, 3 and on, the heights 65,535. */
 static bool slots_right(size_t k) {
     bool right = true;
-    for (size_t i = 0; i < k; i++) right &= list[i].id == i + 1;
-    for (size_t i = k; i < BODKIN_MARKERS; i++) right &= list[i].id == 0xABCD && list[i].x == 0xABCD && list[i].y == 0xABCD;
+    for (size_t i = 0; i < k; i++) right &= list[i].id == i + 1 && list[i].height == BODKIN_TALLEST;
+    for (size_t i = k; i < BODKIN_MARKERS; i++) right &= list[i].id == 0xABCD && list[i].x == 0xABCD && list[i].y == 0xABCD && list[i].height == 0xABCD;
     return right;
 }
 
 static int table(void) {
     for (size_t i = 0; i < sizeof rows / sizeof *rows; i++) {
-        for (size_t k = 0; k < BODKIN_MARKERS; k++) list[k].id = list[k].x = list[k].y = 0xABCD;
+        for (size_t k = 0; k < BODKIN_MARKERS; k++) list[k].id = list[k].x = list[k].y = list[k].height = 0xABCD;
         read_map((const uint8_t *)rows[i].bytes, rows[i].length, rows[i].slots);
         expect(map.refusal == rows[i].refusal && slots_right(map.count) && (map.refusal != 0 || same_map(rows[i].raster)), rows[i].what);
     }
@@ -110,7 +110,7 @@ int main(int argc, char **argv) {
             for (size_t x = 0; x < map.width; x++) putchar(rocks[y * map.width + x] ? '1' : '0');
         return 0;
     }
-    struct bodkin_wrote_map wrote = bodkin_write(list, BODKIN_MARKERS, map.count, map.width, map.height, output, sizeof output);
+    struct bodkin_wrote_map wrote = bodkin_write(list, BODKIN_MARKERS, map.count, map.width, map.height, 0, output, sizeof output);
     if (wrote.refusal) return 1;
     return fwrite(output, 1, wrote.bytes, stdout) == wrote.bytes ? 0 : 1;
 }

@@ -18,13 +18,13 @@ static uint16_t route[BODKIN_ROUTE], sheet[BODKIN_CROSSINGS];
 /* The drive across the largest map, into a route of so many slots. */
 static struct bodkin_drove longest(size_t slots) {
     uint32_t state = 0;
-    return bodkin_drive(list, SLOTS, 0, BODKIN_SIDE, BODKIN_SIDE, 0, 0, BODKIN_SIDE - 1,
+    return bodkin_drive(list, SLOTS, 0, BODKIN_SIDE, BODKIN_SIDE, 0, 0, 0, BODKIN_SIDE - 1,
                         BODKIN_SIDE - 1, labels, BODKIN_CROSSINGS, region, BODKIN_CROSSINGS, route,
                         slots, &state);
 }
 
 static struct bodkin_wrote_map largest(size_t bytes) {
-    return bodkin_write(list, SLOTS, 0, BODKIN_SIDE, BODKIN_SIDE, out, bytes);
+    return bodkin_write(list, SLOTS, 0, BODKIN_SIDE, BODKIN_SIDE, 0, out, bytes);
 }
 
 static struct bodkin_sheet_written drawn(size_t bytes) {
@@ -52,7 +52,7 @@ static void texts(void) {
 
 /* Markers 1 and 2 on (0, 0), in a list of four slots. */
 static void two(void) {
-    struct bodkin_marker first = {1, 0, 0}, second = {2, 0, 0}, none = {0, 0, 0};
+    struct bodkin_marker first = {1, 0, 0, 1}, second = {2, 0, 0, 1}, none = {0, 0, 0, 0};
     list[0] = first;
     list[1] = second;
     list[2] = list[3] = none;
@@ -63,7 +63,7 @@ static uint8_t wide(bool enter, size_t width, uint64_t id) {
     struct bodkin_marker before[SLOTS];
     two();
     memcpy(before, list, sizeof list);
-    struct bodkin_counted counted = enter ? bodkin_enter_wide(list, SLOTS, 2, width, 1, id, 0, 0)
+    struct bodkin_counted counted = enter ? bodkin_enter_wide(list, SLOTS, 2, width, 1, id, 0, 0, BODKIN_TALLEST)
                                           : bodkin_clear_wide(list, SLOTS, 2, width, 1, id);
     bool stays = memcmp(before, list, sizeof list) == 0;
     expect(counted.refusal ? counted.count == 0 && stays : !stays,

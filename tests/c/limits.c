@@ -23,15 +23,15 @@ static uint8_t file[HEADER + CROSSINGS + 1], out[BODKIN_FILE];
 static uint16_t ways[4][CROSSINGS + SIDE], route[BODKIN_ROUTE];
 
 static struct bodkin_marker one(uint16_t id, size_t x, size_t y) {
-    return (struct bodkin_marker){id, (uint16_t)x, (uint16_t)y};
+    return (struct bodkin_marker){id, (uint16_t)x, (uint16_t)y, BODKIN_TALLEST};
 }
 
 /* Labels and measures a map of this size with one rock at (x, y), and sheets of its size. */
 static uint8_t asked(size_t width, size_t height, size_t x, size_t y) {
     size_t n = width * height;
     list[0] = one(1, x, y);
-    uint8_t refusal = bodkin_label(list, SLOTS, 1, width, height, labels, n).refusal;
-    uint8_t measured = bodkin_measure(list, SLOTS, 1, width, height, labels, n, ways[0], n, ways[1],
+    uint8_t refusal = bodkin_label(list, SLOTS, 1, width, height, 0, labels, n).refusal;
+    uint8_t measured = bodkin_measure(list, SLOTS, 1, width, height, 0, labels, n, ways[0], n, ways[1],
                                       n, ways[2], n, ways[3], n);
     return refusal == measured ? refusal : 255;
 }
@@ -47,28 +47,28 @@ static void sizes(void) {
     expect(asked(SIDE, SIDE, SIDE, 0) == BODKIN_BAD_LIST, "a marker at x 256: refused 3");
     expect(asked(SIDE, SIDE, 0, SIDE) == BODKIN_BAD_LIST, "a marker at y 256: refused 3");
     struct bodkin_four off =
-        bodkin_distances(list, SLOTS, 0, SIDE, SIDE, SIDE, 0, labels, CROSSINGS);
+        bodkin_distances(list, SLOTS, 0, SIDE, SIDE, 0, SIDE, 0, labels, CROSSINGS);
     expect(off.refusal == BODKIN_BAD_PLACE, "a place at 256: refused 4");
 }
 
 /* A marker with the last id on the last crossing, and one past each. */
 static void last_marker(void) {
-    expect(bodkin_enter(list, SLOTS, 0, SIDE, SIDE, 65535, SIDE, LAST).refusal == BODKIN_BAD_PLACE
-               && bodkin_enter(list, SLOTS, 0, SIDE, SIDE, 65535, LAST, SIDE).refusal == BODKIN_BAD_PLACE,
+    expect(bodkin_enter(list, SLOTS, 0, SIDE, SIDE, 65535, SIDE, LAST, BODKIN_TALLEST).refusal == BODKIN_BAD_PLACE
+               && bodkin_enter(list, SLOTS, 0, SIDE, SIDE, 65535, LAST, SIDE, BODKIN_TALLEST).refusal == BODKIN_BAD_PLACE,
            "a marker entered at 256: refused 4");
-    expect(bodkin_enter_wide(list, SLOTS, 0, SIDE, SIDE, 65536, LAST, LAST).refusal == BODKIN_BAD_PLACE,
+    expect(bodkin_enter_wide(list, SLOTS, 0, SIDE, SIDE, 65536, LAST, LAST, BODKIN_TALLEST).refusal == BODKIN_BAD_PLACE,
            "id 65,536, which sixteen bits cut to 0: refused 4");
-    struct bodkin_counted counted = bodkin_enter(list, SLOTS, 0, SIDE, SIDE, 65535, LAST, LAST);
+    struct bodkin_counted counted = bodkin_enter(list, SLOTS, 0, SIDE, SIDE, 65535, LAST, LAST, BODKIN_TALLEST);
     expect(counted.refusal == 0 && counted.count == 1 && list[0].id == 65535 && list[0].x == LAST
                && list[0].y == LAST,
            "id 65,535 is entered on crossing number 65,535");
-    counted = bodkin_enter(list, SLOTS, 1, SIDE, SIDE, 65535, 0, 0);
+    counted = bodkin_enter(list, SLOTS, 1, SIDE, SIDE, 65535, 0, 0, BODKIN_TALLEST);
     expect(counted.refusal == BODKIN_ID_IN_USE, "and is in use: refused 5");
 }
 
 /* Labels the largest map with the first so many markers of the list. */
 static struct bodkin_labelling label(size_t count) {
-    return bodkin_label(list, SLOTS, count, SIDE, SIDE, labels, CROSSINGS);
+    return bodkin_label(list, SLOTS, count, SIDE, SIDE, 0, labels, CROSSINGS);
 }
 
 /* A crossing shuts between two rocks at any place of its row, next to a multiple of 64 too. */
@@ -98,7 +98,7 @@ static void along_a_wall(void) {
 
 /* Whether a crossing of the largest map, with one marker in the list, has these four distances. */
 static bool has(size_t x, size_t y, uint16_t east, uint16_t south, uint16_t west, uint16_t north) {
-    struct bodkin_four r = bodkin_distances(list, SLOTS, 1, SIDE, SIDE, x, y, labels, CROSSINGS);
+    struct bodkin_four r = bodkin_distances(list, SLOTS, 1, SIDE, SIDE, 0, x, y, labels, CROSSINGS);
     return r.refusal == 0 && r.four[0] == east && r.four[1] == south && r.four[2] == west
            && r.four[3] == north;
 }
@@ -123,7 +123,7 @@ static void longest_distances(void) {
 static bool assured(size_t rock, size_t x, size_t y) {
     list[0] = one(1, 0, rock);
     struct bodkin_assurance r =
-        bodkin_assured(list, SLOTS, 1, SIDE, SIDE, 0, 0, x, y, labels, CROSSINGS);
+        bodkin_assured(list, SLOTS, 1, SIDE, SIDE, 0, 0, 0, x, y, labels, CROSSINGS);
     return r.refusal == 0 && r.assured;
 }
 
@@ -137,15 +137,15 @@ static void longest_offsets(void) {
 static void longest_drive(void) {
     uint32_t state = 7;
     struct bodkin_drove drove =
-        bodkin_drive(list, SLOTS, 0, SIDE, SIDE, 0, 0, LAST, LAST, labels, CROSSINGS, region,
+        bodkin_drive(list, SLOTS, 0, SIDE, SIDE, 0, 0, 0, LAST, LAST, labels, CROSSINGS, region,
                      CROSSINGS, route, BODKIN_ROUTE, &state);
     expect(drove.refusal == 0 && drove.length == 511 && route[0] == 0 && route[510] == 65535,
            "a drive of 511 crossings ends at number 65,535");
-    struct bodkin_checked found = bodkin_check(list, SLOTS, 0, SIDE, SIDE, 0, 0, LAST, LAST, labels,
+    struct bodkin_checked found = bodkin_check(list, SLOTS, 0, SIDE, SIDE, 0, 0, 0, LAST, LAST, labels,
                                                CROSSINGS, route, drove.length);
     expect(found.refusal == 0 && found.reason == BODKIN_ACCEPTED, "it is accepted");
     struct bodkin_homeward hop =
-        bodkin_hop(list, SLOTS, 0, SIDE, SIDE, 0, 0, LAST, LAST, labels, CROSSINGS);
+        bodkin_hop(list, SLOTS, 0, SIDE, SIDE, 0, 0, 0, LAST, LAST, labels, CROSSINGS);
     expect(hop.hops == 2 && hop.x == 254 && hop.y == LAST && hop.a == LAST && hop.b == 254,
            "two hops homeward from (255,255)");
 }
@@ -154,17 +154,17 @@ static void longest_drive(void) {
 static void last_lines(void) {
     for (size_t i = 0; i < LAST; i++) list[i] = one((uint16_t)(i + 1), i, i);
     struct bodkin_crossing_lines lines =
-        bodkin_lines(list, SLOTS, LAST, SIDE, SIDE, 0, LAST, LAST, 0, labels, CROSSINGS);
+        bodkin_lines(list, SLOTS, LAST, SIDE, SIDE, 0, 0, LAST, LAST, 0, labels, CROSSINGS);
     expect(lines.refusal == 0 && lines.yes && lines.column == LAST && lines.row == LAST,
            "column 255 and row 255 are the only crossing lines");
     uint32_t state = 7;
     struct bodkin_drove drove =
-        bodkin_lines_drive(list, SLOTS, LAST, SIDE, SIDE, 0, LAST, LAST, 0, labels, CROSSINGS,
+        bodkin_lines_drive(list, SLOTS, LAST, SIDE, SIDE, 0, 0, LAST, LAST, 0, labels, CROSSINGS,
                            region, CROSSINGS, route, BODKIN_ROUTE, &state);
     expect(drove.refusal == 0 && drove.length == 511 && route[0] == 65280 && route[255] == 65535
                && route[510] == 255 && state == 7,
            "the drive by way of them: 511 crossings, by number 65,535, with no draw");
-    drove = bodkin_lines_drive(list, SLOTS, LAST, SIDE, SIDE, 0, LAST, LAST, 0, labels, CROSSINGS,
+    drove = bodkin_lines_drive(list, SLOTS, LAST, SIDE, SIDE, 0, 0, LAST, LAST, 0, labels, CROSSINGS,
                                region, CROSSINGS, route, BODKIN_ROUTE - 1, &state);
     expect(drove.refusal == BODKIN_SHORT_ROUTE && region[CROSSINGS - 1] == 1 && region[0] == 0,
            "into 510 slots: refused 10, the region is there");
@@ -174,11 +174,11 @@ static void last_lines(void) {
 static void last_number(void) {
     const uint16_t into[2] = {65534, 65535}, off[2] = {65278, 65535};
     list[0] = one(1, LAST, LAST);
-    struct bodkin_checked found = bodkin_check(list, SLOTS, 1, SIDE, SIDE, 254, LAST, LAST, 254,
+    struct bodkin_checked found = bodkin_check(list, SLOTS, 1, SIDE, SIDE, 0, 254, LAST, LAST, 254,
                                                labels, CROSSINGS, into, 2);
     expect(found.refusal == 0 && found.reason == BODKIN_IS_CLOSED && found.position == 1,
            "number 65,535 with a rock is closed");
-    found = bodkin_check(list, SLOTS, 0, SIDE, LAST, 254, 254, LAST, 254, labels, CROSSINGS - SIDE,
+    found = bodkin_check(list, SLOTS, 0, SIDE, LAST, 0, 254, 254, LAST, 254, labels, CROSSINGS - SIDE,
                          off, 2);
     expect(found.refusal == 0 && found.reason == BODKIN_OFF_THE_MAP && found.position == 1,
            "on a map of 255 rows it is off the map");
@@ -196,20 +196,20 @@ static bool unchanged(void) { return memcmp(before, list, sizeof list) == 0; }
 static void most_markers(void) {
     const size_t most = BODKIN_MARKERS;
     fill(most, 65535);
-    struct bodkin_labelling r = bodkin_label(list, SLOTS, most, SIDE, SIDE, labels, CROSSINGS);
+    struct bodkin_labelling r = bodkin_label(list, SLOTS, most, SIDE, SIDE, 0, labels, CROSSINGS);
     expect(r.refusal == 0 && r.rocks == most && r.shut == 0 && r.groups == 1,
            "8,192 markers with ids up to 65,535: 32 rows of rocks, one group");
-    struct bodkin_counted counted = bodkin_enter(list, SLOTS, most, SIDE, SIDE, 1, 0, 0);
+    struct bodkin_counted counted = bodkin_enter(list, SLOTS, most, SIDE, SIDE, 1, 0, 0, BODKIN_TALLEST);
     expect(counted.refusal == BODKIN_NO_SLOT && counted.count == 0 && unchanged(),
            "an 8,193rd marker: refused 7, though the list has slots");
     counted = bodkin_clear(list, SLOTS, most, SIDE, SIDE, 65535);
     expect(counted.refusal == 0 && counted.count == most - 1 && list[most - 1].id == 0,
            "id 65,535 is cleared");
-    counted = bodkin_enter(list, most, most - 1, SIDE, SIDE, 65535, LAST, 31);
+    counted = bodkin_enter(list, most, most - 1, SIDE, SIDE, 65535, LAST, 31, BODKIN_TALLEST);
     expect(counted.refusal == 0 && counted.count == most && unchanged(),
            "and entered again, in the last slot of a list of 8,192");
     fill(most + 1, 65535);
-    r = bodkin_label(list, SLOTS, most + 1, SIDE, SIDE, labels, CROSSINGS);
+    r = bodkin_label(list, SLOTS, most + 1, SIDE, SIDE, 0, labels, CROSSINGS);
     expect(r.refusal == BODKIN_BAD_LIST, "8,193 markers with rising ids: refused 3");
     counted = bodkin_clear(list, SLOTS, most + 1, SIDE, SIDE, 65535);
     expect(counted.refusal == BODKIN_BAD_LIST && unchanged(), "clearing among 8,193: refused 3");
@@ -273,7 +273,7 @@ static void largest_files(void) {
     expect(refused(bodkin_read(file, n, list, most), BODKIN_NO_SLOT),
            "65,535 rocks and a 0 for the last digit: refused 7");
     read_map(true, most, most, 0);
-    struct bodkin_wrote_map wrote = bodkin_write(list, most, most, SIDE, SIDE, out, sizeof out);
+    struct bodkin_wrote_map wrote = bodkin_write(list, most, most, SIDE, SIDE, 0, out, sizeof out);
     expect(wrote.refusal == 0 && wrote.bytes == BODKIN_FILE && memcmp(out, file, BODKIN_FILE) == 0,
            "8,192 rocks written again: the same bytes");
 }

@@ -27,19 +27,19 @@ static const struct row rows[] = {
     {"no rocks", 0, {{0}}, {0, 0}, {2, 1}, true, 0, 0, true},
     {"from a crossing to itself", 0, {{0}}, {3, 1}, {3, 1}, true, 3, 1, true},
     {"west and south", 0, {{0}}, {2, 1}, {0, 0}, true, 0, 0, true},
-    {"lines, and not assured", 1, {{1, 1, 0}}, {0, 0}, {2, 1}, true, 0, 1, false},
-    {"assured, and no lines", 2, {{1, 0, 1}, {2, 2, 0}}, {0, 0}, {2, 1}, false, 0, 0, true},
-    {"columns and no row", 2, {{1, 1, 0}, {2, 1, 2}}, {0, 0}, {2, 2}, false, 0, 0, false},
-    {"rows and no column", 2, {{1, 0, 1}, {2, 2, 1}}, {0, 0}, {2, 2}, false, 0, 0, false},
-    {"a rock between", 1, {{1, 1, 0}}, {0, 0}, {2, 0}, false, 0, 0, false},
-    {"a rock outside the rectangle", 1, {{1, 5, 5}}, {0, 0}, {4, 4}, true, 0, 0, true},
-    {"a shut crossing in the row", 3, {{1, 3, 2}, {2, 4, 3}, {3, 5, 2}}, {4, 0}, {4, 5}, false, 0, 0, false},
-    {"beside R", 3, {{1, 3, 2}, {2, 4, 3}, {3, 5, 2}}, {0, 2}, {7, 4}, true, 0, 4, false},
+    {"lines, and not assured", 1, {{1, 1, 0, 1}}, {0, 0}, {2, 1}, true, 0, 1, false},
+    {"assured, and no lines", 2, {{1, 0, 1, 1}, {2, 2, 0, 1}}, {0, 0}, {2, 1}, false, 0, 0, true},
+    {"columns and no row", 2, {{1, 1, 0, 1}, {2, 1, 2, 1}}, {0, 0}, {2, 2}, false, 0, 0, false},
+    {"rows and no column", 2, {{1, 0, 1, 1}, {2, 2, 1, 1}}, {0, 0}, {2, 2}, false, 0, 0, false},
+    {"a rock between", 1, {{1, 1, 0, 1}}, {0, 0}, {2, 0}, false, 0, 0, false},
+    {"a rock outside the rectangle", 1, {{1, 5, 5, 1}}, {0, 0}, {4, 4}, true, 0, 0, true},
+    {"a shut crossing in the row", 3, {{1, 3, 2, 1}, {2, 4, 3, 1}, {3, 5, 2, 1}}, {4, 0}, {4, 5}, false, 0, 0, false},
+    {"beside R", 3, {{1, 3, 2, 1}, {2, 4, 3, 1}, {3, 5, 2, 1}}, {0, 2}, {7, 4}, true, 0, 4, false},
 };
 
 static struct bodkin_crossing_lines ask(const struct row *row) {
     memset(labels, 9, sizeof labels);
-    return bodkin_lines(row->list, ROCKS, row->rocks, SIDE, SIDE, row->s[0], row->s[1], row->d[0], row->d[1], labels, SHEET);
+    return bodkin_lines(row->list, ROCKS, row->rocks, SIDE, SIDE, 0, row->s[0], row->s[1], row->d[0], row->d[1], labels, SHEET);
 }
 
 static struct bodkin_drove drive(const struct row *row, size_t slots) {
@@ -47,7 +47,7 @@ static struct bodkin_drove drive(const struct row *row, size_t slots) {
     memset(region, 9, sizeof region);
     for (size_t i = 0; i < ROUTE; i++) route[i] = 999;
     state = 7;
-    return bodkin_lines_drive(row->list, ROCKS, row->rocks, SIDE, SIDE, row->s[0], row->s[1], row->d[0], row->d[1], labels, SHEET, region, SHEET,
+    return bodkin_lines_drive(row->list, ROCKS, row->rocks, SIDE, SIDE, 0, row->s[0], row->s[1], row->d[0], row->d[1], labels, SHEET, region, SHEET,
                               route, slots, &state);
 }
 
@@ -72,7 +72,7 @@ static void each_row(void) {
         struct bodkin_crossing_lines lines = ask(row);
         bool same = lines.yes == row->yes && lines.column == row->column && lines.row == row->row;
         expect(lines.refusal == BODKIN_DONE && same && !holds(labels, 9), row->what);
-        struct bodkin_assurance assurance = bodkin_assured(row->list, ROCKS, row->rocks, SIDE, SIDE, row->s[0], row->s[1], row->d[0], row->d[1],
+        struct bodkin_assurance assurance = bodkin_assured(row->list, ROCKS, row->rocks, SIDE, SIDE, 0, row->s[0], row->s[1], row->d[0], row->d[1],
                                                            labels, SHEET);
         expect(assurance.refusal == BODKIN_DONE && assurance.assured == row->assured, row->what);
     }
@@ -90,19 +90,19 @@ static void each_drive(void) {
             expect(drove.refusal == BODKIN_NO_LINES && !drove.length && all(region, 9) && unmoved() && !holds(labels, 9), row->what);
             continue;
         }
-        struct bodkin_checked found = bodkin_check(row->list, ROCKS, row->rocks, SIDE, SIDE, row->s[0], row->s[1], row->d[0], row->d[1], labels, SHEET,
+        struct bodkin_checked found = bodkin_check(row->list, ROCKS, row->rocks, SIDE, SIDE, 0, row->s[0], row->s[1], row->d[0], row->d[1], labels, SHEET,
                                                    route, drove.length);
         size_t met = 0;
         for (size_t j = 0; j < drove.length; j++) met += route[j] == row->row * SIDE + row->column;
         expect(drove.refusal == BODKIN_DONE && !found.refusal && !found.reason && met == 1 && route[drove.length] == 999, row->what);
         uint8_t whole[SHEET];
-        uint8_t refusal = bodkin_region(row->list, ROCKS, row->rocks, SIDE, SIDE, row->s[0], row->s[1], row->d[0], row->d[1], labels, SHEET, whole, SHEET);
+        uint8_t refusal = bodkin_region(row->list, ROCKS, row->rocks, SIDE, SIDE, 0, row->s[0], row->s[1], row->d[0], row->d[1], labels, SHEET, whole, SHEET);
         expect(!refusal && memcmp(region, whole, SHEET) == 0, "the region sheet holds the region of s and d");
     }
 }
 
 static void refusals(void) {
-    struct row row = {"R", 3, {{1, 3, 2}, {2, 4, 3}, {3, 5, 2}}, {0, 2}, {7, 2}, false, 0, 0, false};
+    struct row row = {"R", 3, {{1, 3, 2, 1}, {2, 4, 3, 1}, {3, 5, 2, 1}}, {0, 2}, {7, 2}, false, 0, 0, false};
     struct bodkin_drove drove = drive(&row, 0);
     expect(drove.refusal == BODKIN_NO_LINES && all(region, 9) && unmoved() && !holds(labels, 9), "no lines and a short route: refused 19");
     row.d[1] = 4;
@@ -123,20 +123,20 @@ static void refusals(void) {
     row.rocks = 4;
     expect(drive(&row, ROUTE).refusal == BODKIN_BAD_LIST && ask(&row).refusal == BODKIN_BAD_LIST && all(labels, 9), "a count over the list: refused 3");
     row.rocks = 3;
-    lines = bodkin_lines(row.list, ROCKS, 3, SIDE, SIDE, 0, 2, 7, 4, labels, SHEET - 1);
+    lines = bodkin_lines(row.list, ROCKS, 3, SIDE, SIDE, 0, 0, 2, 7, 4, labels, SHEET - 1);
     expect(lines.refusal == BODKIN_BAD_SHEET && all(labels, 9), "a short label sheet: refused 2");
-    lines = bodkin_lines(row.list, ROCKS, 3, 0, SIDE, 0, 2, 7, 4, labels, SHEET);
+    lines = bodkin_lines(row.list, ROCKS, 3, 0, SIDE, 0, 0, 2, 7, 4, labels, SHEET);
     expect(lines.refusal == BODKIN_BAD_SIZE && all(labels, 9), "a width of 0: refused 1");
 }
 
 /* Without rocks the lines meet at s: the drive is document 01's, state and all. */
 static void example(void) {
     uint32_t z = 0;
-    struct bodkin_drove drove = bodkin_lines_drive(rows[0].list, ROCKS, 0, SIDE, SIDE, 0, 0, 2, 1, labels, SHEET, region, SHEET, route, ROUTE, &z);
+    struct bodkin_drove drove = bodkin_lines_drive(rows[0].list, ROCKS, 0, SIDE, SIDE, 0, 0, 0, 2, 1, labels, SHEET, region, SHEET, route, ROUTE, &z);
     expect(drove.length == 4 && route[0] == 0 && route[1] == 1 && route[2] == 2 && route[3] == 10 && z == 0x47502932, "without rocks, example 11's drive");
-    const struct bodkin_marker rock[1] = {{1, 1, 0}};
+    const struct bodkin_marker rock[1] = {{1, 1, 0, 1}};
     z = 5;
-    drove = bodkin_lines_drive(rock, 1, 1, SIDE, SIDE, 0, 0, 2, 1, labels, SHEET, region, SHEET, route, ROUTE, &z);
+    drove = bodkin_lines_drive(rock, 1, 1, SIDE, SIDE, 0, 0, 0, 2, 1, labels, SHEET, region, SHEET, route, ROUTE, &z);
     expect(drove.length == 4 && route[0] == 0 && route[1] == 8 && route[2] == 9 && route[3] == 10 && z == 5, "round a rock, with no draw");
 }
 

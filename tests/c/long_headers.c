@@ -40,7 +40,7 @@ static size_t append(size_t n, const char *text) {
 
 static void *read_all(void *nothing) {
     for (size_t i = 0; i < sizeof rows / sizeof *rows; i++) {
-        struct bodkin_marker list[SLOTS] = {{0, 0, 0}};
+        struct bodkin_marker list[SLOTS] = {{0, 0, 0, 0}};
         size_t n = append(0, rows[i].before);
         for (size_t k = 0; k < TIMES; k++) n = append(n, rows[i].item);
         n = append(n, rows[i].after);

@@ -177,7 +177,7 @@ static int distances(const char *way) {
     size_t n = fread(input, 1, sizeof input, stdin);
     struct bodkin_read_map map = bodkin_read(input, n, list, BODKIN_MARKERS);
     size_t size = map.width * map.height;
-    if (map.refusal || bodkin_measure(list, BODKIN_MARKERS, map.count, map.width, map.height, labels, size, sheets[0], size, sheets[1], size, sheets[2],
+    if (map.refusal || bodkin_measure(list, BODKIN_MARKERS, map.count, map.width, map.height, 0, labels, size, sheets[0], size, sheets[1], size, sheets[2],
                                       size, sheets[3], size))
         return 1;
     for (size_t i = 0; i < 4; i++) {

@@ -19,7 +19,7 @@
 #include <unistd.h>
 #include "grainbodkin.h"
 
-enum { ROOM = 8 << 20, PAINT = 0xA5, SIDE = BODKIN_SIDE, CROSSINGS = SIDE * SIDE, FILE_ROOM = 1 << 20 };
+enum { ROOM = 8 << 20, PAINT = 0xA5, SIDE = BODKIN_SIDE, CROSSINGS = SIDE * SIDE, FILE_ROOM = 1 << 20, CLEARANCE = 20 };
 
 static unsigned char stack[ROOM];
 static ucontext_t here, there;
@@ -39,26 +39,27 @@ static struct { char call[16]; size_t bytes; } table[32];
 static size_t table_len;
 
 #define LIST list, BODKIN_MARKERS + 1, count, SIDE, SIDE
+#define ASKED LIST, CLEARANCE
 #define ENDS 0, 0, SIDE - 1, SIDE - 1
 #define LABELS labels, CROSSINGS
 
 static void nothing(void) { refusal = 0; }
-static void enter(void) { refusal = bodkin_enter(LIST, 65535, 0, 0).refusal; }
+static void enter(void) { refusal = bodkin_enter(LIST, 65535, 0, 0, BODKIN_TALLEST).refusal; }
 static void clear(void) { refusal = bodkin_clear(LIST, 1).refusal; }
-static void label(void) { refusal = bodkin_label(LIST, LABELS).refusal; }
-static void distances(void) { refusal = bodkin_distances(LIST, 0, 0, LABELS).refusal; }
+static void label(void) { refusal = bodkin_label(ASKED, LABELS).refusal; }
+static void distances(void) { refusal = bodkin_distances(ASKED, 0, 0, LABELS).refusal; }
 static void measure(void) {
-    refusal = bodkin_measure(LIST, LABELS, ways[0], CROSSINGS, ways[1], CROSSINGS, ways[2], CROSSINGS, ways[3], CROSSINGS);
+    refusal = bodkin_measure(ASKED, LABELS, ways[0], CROSSINGS, ways[1], CROSSINGS, ways[2], CROSSINGS, ways[3], CROSSINGS);
 }
-static void assured(void) { refusal = bodkin_assured(LIST, ENDS, LABELS).refusal; }
-static void hop(void) { refusal = bodkin_hop(LIST, ENDS, LABELS).refusal; }
-static void make_region(void) { refusal = bodkin_region(LIST, ENDS, LABELS, region, CROSSINGS); }
-static void drive(void) { refusal = bodkin_drive(LIST, ENDS, LABELS, region, CROSSINGS, route, 2 * SIDE, &state).refusal; }
-static void check(void) { refusal = bodkin_check(LIST, ENDS, LABELS, drawn, drawn_len).refusal; }
-static void lines(void) { refusal = bodkin_lines(LIST, ENDS, LABELS).refusal; }
-static void lines_drive(void) { refusal = bodkin_lines_drive(LIST, ENDS, LABELS, region, CROSSINGS, route, 2 * SIDE, &state).refusal; }
+static void assured(void) { refusal = bodkin_assured(ASKED, ENDS, LABELS).refusal; }
+static void hop(void) { refusal = bodkin_hop(ASKED, ENDS, LABELS).refusal; }
+static void make_region(void) { refusal = bodkin_region(ASKED, ENDS, LABELS, region, CROSSINGS); }
+static void drive(void) { refusal = bodkin_drive(ASKED, ENDS, LABELS, region, CROSSINGS, route, 2 * SIDE, &state).refusal; }
+static void check(void) { refusal = bodkin_check(ASKED, ENDS, LABELS, drawn, drawn_len).refusal; }
+static void lines(void) { refusal = bodkin_lines(ASKED, ENDS, LABELS).refusal; }
+static void lines_drive(void) { refusal = bodkin_lines_drive(ASKED, ENDS, LABELS, region, CROSSINGS, route, 2 * SIDE, &state).refusal; }
 static void read_map(void) { refusal = bodkin_read(file, file_len, freed, BODKIN_MARKERS).refusal; }
-static void write_map(void) { refusal = bodkin_write(LIST, out, sizeof out).refusal; }
+static void write_map(void) { refusal = bodkin_write(ASKED, out, sizeof out).refusal; }
 static void write_sheet(void) { refusal = bodkin_write_sheet(ways[0], CROSSINGS, SIDE, SIDE, out, sizeof out).refusal; }
 static void read_sheet(void) { refusal = bodkin_read_sheet(file, file_len, ways[0], CROSSINGS).refusal; }
 
@@ -90,7 +91,7 @@ static void rocks(void) {
     for (size_t y = 2; y < SIDE - 2; y++)
         for (size_t x = 2; x < SIDE - 2; x++)
             if ((x + y) % 8 == 0) {
-                list[count] = (struct bodkin_marker){.id = count + 1, .x = x, .y = y};
+                list[count] = (struct bodkin_marker){.id = count + 1, .x = x, .y = y, .height = CLEARANCE + 1};
                 count++;
             }
 }

@@ -10,6 +10,7 @@ use lib.Pow.{pow-pos, split, shr-lt}
 use lib.Count.{ones, ones-cat}
 use Rattle.field.specs.Labels.{sumTo}
 use Rattle.field.specs.Workings.Counting.{sum-same}
+use Rattle.field.specs.Workings.MarkTally.{sum-append}
 use Rattle.bits.specs.Bit.{bitAt}
 use Rattle.bits.specs.Shifts.{bit-low}
 
@@ -47,13 +48,6 @@ sum-cut w (suc n) f l z = go (ℕ-discrete w (suc n)) (λ m. sum-cut w n f m (λ
     go : Dec (w ≡ suc n) → (w ≤ n → sumTo n f ≡ sumTo w f) → sumTo (suc n) f ≡ sumTo w f
     go (yes e) g = ap (λ (k : ℕ). sumTo k f) (sym e)
     go (no m) g = omega (arith, g (omega arith), z n (omega arith) (omega arith))
-
-sum-append : (m n : ℕ) (f : ℕ → ℕ) → sumTo (m + n) f ≡ sumTo m f + sumTo n (λ k. f (m + k))
-unfolding sumTo
-sum-append m zero f = let e : m + zero ≡ m = omega arith in ap (λ (k : ℕ). sumTo k f) e ∙ omega arith
-sum-append m (suc n) f =
-    let e : m + suc n ≡ suc (m + n) = omega arith in
-    ap (λ (k : ℕ). sumTo k f) e ∙ omega (arith, sum-append m n f)
 
 sum-blocks : (n : ℕ) (f : ℕ → ℕ) → sumTo n (λ j. sumTo 64 (λ k. f (64 * j + k))) ≡ sumTo (64 * n) f
 unfolding sumTo

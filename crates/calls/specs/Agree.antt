@@ -83,7 +83,7 @@ module _ {list other : List Marker} {count : ℕ} where
 
 -- The same map with another list.
 abbrev pub with-list : LentMap → List Marker → LentMap
-with-list m other = lentMap other (m .count) (m .width) (m .height)
+with-list m other = lentMap other (m .count) (m .width) (m .height) (m .clearance)
 
 -- The table of an asking, opened: 1, 2, 3, and what its own rows give.
 abbrev pub AskingGives : LentMap → Type 0 → Type 0 → ℕ → Type 0
@@ -91,7 +91,7 @@ AskingGives m Misfits Own n =
     ((¬ Sized m) × (n ≡ bad-size))
     ⊎ ((¬ ¬ Sized m) × ((Misfits × (n ≡ bad-sheet)) ⊎ ((¬ Misfits) × (((¬ Formed m) × (n ≡ bad-list)) ⊎ ((¬ ¬ Formed m) × Own)))))
 
-module _ {m : LentMap} {other : List Marker} (a : Agree (m .list) other (m .count)) where
+module _ (m : LentMap) {other : List Marker} (a : Agree (m .list) other (m .count)) where
   -- A list that row 3 passes has the same markers in use as the other.
   passed-in-use : ¬ ¬ Formed m → markersIn m ≡ markersIn (with-list m other)
   passed-in-use f = agree-in-use a (formed-holds f .lent)
@@ -169,11 +169,11 @@ abbrev pub ListGives : LentMap → Type 0 → ℕ → Type 0
 ListGives m Own n =
     ((¬ Sized m) × (n ≡ bad-size)) ⊎ ((¬ ¬ Sized m) × (((¬ Formed m) × (n ≡ bad-list)) ⊎ ((¬ ¬ Formed m) × Own)))
 
-pub listed-moved : {m : LentMap} {other : List Marker} {n : ℕ} {G K : Type 0} → Agree (m .list) other (m .count) → ListGives m G n
+pub listed-moved : (m : LentMap) {other : List Marker} {n : ℕ} {G K : Type 0} → Agree (m .list) other (m .count) → ListGives m G n
     → (m .count ≤ length (m .list) → G → K) → ListGives (with-list m other) K n
-listed-moved a (inl p) f = inl p
-listed-moved a (inr (s, inl p)) f = inr (s, inl (λ t. p .0 (formed-moved (agree-turned a) t), p .1))
-listed-moved a (inr (s, inr p)) f = inr (s, inr (λ t. p .0 (λ u. t (formed-moved a u)), f (formed-holds (p .0) .lent) (p .1)))
+listed-moved m a (inl p) f = inl p
+listed-moved m a (inr (s, inl p)) f = inr (s, inl (λ t. p .0 (formed-moved (agree-turned a) t), p .1))
+listed-moved m a (inr (s, inr p)) f = inr (s, inr (λ t. p .0 (λ u. t (formed-moved a u)), f (formed-holds (p .0) .lent) (p .1)))
 
 -- Entering and clearing leave the slots in use equal again: the same id stands or belongs at the
 -- same place in both.

@@ -18,7 +18,7 @@ use Rattle.field.specs.Drives.{RegionSheet}
 use Rattle.field.specs.Chooser.{Driven}
 use Rattle.mapfile.specs.File.{MapFile, markersOf, FileFault, NoSlot}
 use Rattle.mapfile.specs.Written.{Written}
-use Rattle.calls.specs.LentMap.{LentMap, lentMap}
+use Rattle.calls.specs.LentMap.{LentMap, lentList}
 use Rattle.calls.specs.declared.Counted.{Counted}
 use Rattle.calls.specs.declared.Labelling.{Labelling}
 use Rattle.calls.specs.declared.Four.{Four}
@@ -122,7 +122,7 @@ pub record MapRead (file : List ℕ) (list list′ : List Marker) (r : ReadMap) 
 
 -- The map that was read, with the list as reading leaves it.
 abbrev pub read-map : List Marker → ReadMap → LentMap
-read-map list r = lentMap list (r .count) (r .width) (r .height)
+read-map list r = lentList list (r .count) (r .width) (r .height)
 
 -- "The number of bytes written is handed back; bytes past the end stay."
 pub record MapWritten (w h : ℕ) (R : ℕ → ℕ → Type 0) (out out′ : List ℕ) (r : WroteMap) : Type 0 where

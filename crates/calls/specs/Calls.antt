@@ -40,12 +40,13 @@ use Rattle.calls.specs.declared.Drove.{Drove}
 use Rattle.calls.specs.declared.ReadMap.{ReadMap}
 use Rattle.calls.specs.declared.WroteMap.{WroteMap}
 
--- enter: "puts the marker at its place by id and moves the later ones up by one"
-pub record EnterCall (m : LentMap) (id x y : ℕ) (list′ : List Marker) (r : Counted) : Type 0 where
+-- enter: "puts the marker at its place by id and moves the later ones up by one". Every height is
+-- allowed.
+pub record EnterCall (m : LentMap) (id x y height : ℕ) (list′ : List Marker) (r : Counted) : Type 0 where
   pub given : Gives (Rules.enter-table m id x y) (r .refusal)
   pub kept : ¬ (r .refusal ≡ 0) → list′ ≡ m .list
   pub refused : ¬ (r .refusal ≡ 0) → r ≡ no-count (r .refusal)
-  pub done : r .refusal ≡ 0 → Enters (m .list) (m .count) (marker id x y) list′ (r .count)
+  pub done : r .refusal ≡ 0 → Enters (m .list) (m .count) (marker id x y height) list′ (r .count)
 
 -- clear: "moves the later ones down and sets the one slot so freed to zeros"
 pub record ClearCall (m : LentMap) (id : ℕ) (list′ : List Marker) (r : Counted) : Type 0 where
@@ -126,7 +127,8 @@ pub record ReadCall (file : List ℕ) (list list′ : List Marker) (r : ReadMap)
   pub refused : ¬ (r .refusal ≡ 0) → r ≡ no-map (r .refusal)
   pub done : r .refusal ≡ 0 → MapRead file list list′ r
 
--- write: a map file from the list
+-- write: a map file from the list. "writing a map takes a clearance" (document 02, Req 08): the
+-- rocks written are those of a cart with that clearance.
 pub record WriteCall (m : LentMap) (out out′ : List ℕ) (r : WroteMap) : Type 0 where
   pub given : Gives (Rules.write-table m out) (r .refusal)
   pub kept : ¬ (r .refusal ≡ 0) → out′ ≡ out

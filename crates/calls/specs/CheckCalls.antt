@@ -48,12 +48,12 @@ module _ {m : LentMap} {sx sy dx dy : ℕ} {labels drawn : List ℕ} where
 -- "Slots past the count are never read".
 pub check-unread : {m : LentMap} {other : List Marker} {sx sy dx dy : ℕ} {labels drawn labels′ : List ℕ} {r : Checked} → Agree (m .list) other (m .count)
     → CheckCall m sx sy dx dy labels drawn labels′ r → CheckCall (with-list m other) sx sy dx dy labels drawn labels′ r
-check-unread a c =
+check-unread {m} a c =
     record {
-      given = asked-moved a (c .given) (λ e g. rw e at g);
-      labels-after = labels-moved a (c .given) (c .labels-after);
+      given = asked-moved m a (c .given) (λ e g. rw e at g);
+      labels-after = labels-moved m a (c .given) (c .labels-after);
       refused = c .refused;
-      done = λ z. rw (asked-in-use a (c .given) (λ t. omega arith)) at (c .done z);
+      done = λ z. rw (asked-in-use m a (c .given) (λ t. omega arith)) at (c .done z);
     }
 
 -- A call that was not refused.

@@ -26,7 +26,7 @@ use Rattle.markers.specs.List.{Same, Times}
 use Rattle.markers.specs.Promise.{marker}
 use Rattle.markers.specs.Theorems
 use Rattle.markers.specs.Laws.Reached.{empty-formed}
-use Rattle.calls.specs.Rules.{LentMap, lentMap, Sized, Formed, markersIn, ClosedBy}
+use Rattle.calls.specs.Rules.{LentMap, lentMap, with-clearance, Sized, Formed, markersIn, ClosedBy}
 use Rattle.calls.specs.Calls.{EnterCall, ClearCall, LabelCall, AssuredCall, HopCall, RegionCall, DriveCall, RouteCall}
 use Rattle.calls.specs.Sequences.{GoesOn, Calls, Sparing, Names, SaysThere, Journey, move}
 use Rattle.calls.specs.ListCalls
@@ -44,8 +44,8 @@ use Rattle.calls.specs.declared.Drove.{Drove}
 
 -- The list, after any sequence of enter, clear and read calls. A list with nothing in use is a
 -- start, whatever its slots hold.
-pub empty-start : (list : List Marker) (w h : ℕ) → Calls (lentMap list 0 w h)
-empty-start list w h = Calls.start (empty-formed w h list 0 refl)
+pub empty-start : (list : List Marker) (w h clearance : ℕ) → Calls (lentMap list 0 w h clearance)
+empty-start list w h clearance = Calls.start (empty-formed w h list 0 refl)
 
 module _ {m : LentMap} (calls : Calls m) where
   pub calls-reached : MapReached m
@@ -54,15 +54,17 @@ module _ {m : LentMap} (calls : Calls m) where
   pub calls-formed : Formed m
   calls-formed = Theorems.reached-formed (m .width) (m .height) calls-reached
 
-  -- Its groups, as a label call shows them: the label sheet's marks are the labels that are not 0.
-  module _ {labels labels′ : List ℕ} {r : Labelling} (sides : Sized m) (fits : length labels ≡ m .height * m .width) (asked : LabelCall m labels labels′ r) where
+  -- Its groups, as a label call shows them for any cart: the label sheet's marks are the labels
+  -- that are not 0.
+  module _ {clearance : ℕ} {labels labels′ : List ℕ} {r : Labelling} (sides : Sized m) (fits : length labels ≡ m .height * m .width)
+      (asked : LabelCall (with-clearance m clearance) labels labels′ r) where
     abbrev ShownClosed : ℕ → ℕ → Type 0
     ShownClosed = Marked labels′ (m .width) (m .height)
 
     pub calls-labelled : r .refusal ≡ 0
     calls-labelled = LabelCalls.label-not-refused asked sides fits calls-formed
 
-    pub calls-draws : Draws (m .width) (m .height) (ClosedBy m) labels′
+    pub calls-draws : Draws (m .width) (m .height) (ClosedBy (with-clearance m clearance)) labels′
     calls-draws = LabelCalls.label-draws asked calls-labelled
 
     pub calls-rectangles : (x y : ℕ) → ShownClosed x y → Rectangle ShownClosed x y
@@ -76,11 +78,11 @@ module _ {m : LentMap} (calls : Calls m) where
 
 -- No marker is lost: across a call every other marker stands in the list exactly as often as
 -- before. A refused call changes nothing.
-module _ {m next : LentMap} {id x y : ℕ} {list′ : List Marker} {r : Counted} (call : EnterCall m id x y list′ r) (after : GoesOn m list′ r next) where
-  pub enter-no-marker-lost : (k : Marker) → ¬ Same (marker id x y) k → AsOften k (markersIn m) (markersIn next)
+module _ {m next : LentMap} {id x y height : ℕ} {list′ : List Marker} {r : Counted} (call : EnterCall m id x y height list′ r) (after : GoesOn m list′ r next) where
+  pub enter-no-marker-lost : (k : Marker) → ¬ Same (marker id x y height) k → AsOften k (markersIn m) (markersIn next)
   enter-no-marker-lost = ListCalls.enter-others call after
 
-  pub enter-itself-once : r .refusal ≡ 0 → Times (marker id x y) (markersIn next) 1
+  pub enter-itself-once : r .refusal ≡ 0 → Times (marker id x y height) (markersIn next) 1
   enter-itself-once = ListCalls.enter-once call after
 
   pub enter-refused-nothing : ¬ (r .refusal ≡ 0) → (list′ ≡ m .list) × (next ≡ m)
@@ -96,14 +98,14 @@ module _ {m next : LentMap} {id : ℕ} {list′ : List Marker} {r : Counted} (ca
   pub clear-refused-nothing : ¬ (r .refusal ≡ 0) → (list′ ≡ m .list) × (next ≡ m)
   clear-refused-nothing n = (call .kept n, after .old n)
 
--- Over a sequence: a marker that stands in the list, on its crossing and under its id, stands there
--- exactly once still, whatever else is entered and cleared, until its id is cleared or a read map
--- replaces the list. So none is dropped, moved or joined.
+-- Over a sequence: a marker that stands in the list, on its crossing, under its id and with its
+-- height, stands there exactly once still, whatever else is entered and cleared, until its id is
+-- cleared or a read map replaces the list. So none is dropped, moved or joined.
 pub marker-kept : {m next : LentMap} {k : Marker} → Times k (markersIn m) 1 → Sparing (k .id) m next → Times k (markersIn next) 1
 marker-kept = ListCalls.spared
 
--- The way home. The cart has asked whether home (hx, hy) is assured for (x, y), and the answer was
--- yes.
+-- The way home. The cart has asked, with its clearance, whether home (hx, hy) is assured for (x,
+-- y), and the answer was yes. It keeps the clearance on the way: m is one lent map.
 module _ {m : LentMap} {hx hy x y : ℕ} {labels labels′ : List ℕ} {r : Assurance} (asked : AssuredCall m hx hy x y labels labels′ r)
     (given : r .refusal ≡ 0) (assured : r .assured ≡ true) where
   known : {n a b : ℕ} → Journey m hx hy x y n a b → Assurances m hx hy a b

@@ -41,7 +41,7 @@ use Rattle.calls.specs.declared.ReadMap.{ReadMap}
 use Rattle.calls.specs.declared.WroteMap.{WroteMap}
 
 module _ {m : LentMap} where
-  pub enter-exactly : {id x y : ℕ} {list′ : List Marker} {r : Counted} → EnterCall m id x y list′ r
+  pub enter-exactly : {id x y height : ℕ} {list′ : List Marker} {r : Counted} → EnterCall m id x y height list′ r
       → Exactly (Rules.enter-table m id x y) (r .refusal)
   enter-exactly {id} {x} {y} c = exactly (Rules.enter-table m id x y) _ (omega arith) (c .given)
 

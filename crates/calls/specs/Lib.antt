@@ -25,6 +25,8 @@ pub mod Unread
 pub mod CheckCalls
 pub mod LinesCalls
 pub mod Demands
+pub mod ClearanceCalls
+pub mod MoreClearance
 pub mod RefusalTable
 pub mod RefusalSettled
 pub mod Sharing

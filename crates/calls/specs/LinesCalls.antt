@@ -77,10 +77,10 @@ module _ {m : LentMap} {other : List Marker} (a : Agree (m .list) other (m .coun
   pub lines-unread : {labels labels′ : List ℕ} {r : CrossingLines} → LinesCall m sx sy dx dy labels labels′ r → LinesCall (with-list m other) sx sy dx dy labels labels′ r
   lines-unread c =
       record {
-        given = asked-moved a (c .given) (λ e g. rw e at g);
-        labels-after = labels-moved a (c .given) (c .labels-after);
+        given = asked-moved m a (c .given) (λ e g. rw e at g);
+        labels-after = labels-moved m a (c .given) (c .labels-after);
         refused = c .refused;
-        done = λ z. rw (asked-in-use a (c .given) (λ t. omega arith)) at (c .done z);
+        done = λ z. rw (asked-in-use m a (c .given) (λ t. omega arith)) at (c .done z);
       }
 
   pub lines-drive-unread : {labels region route labels′ region′ route′ : List ℕ} {state state′ : ℕ} {r : Drove}
@@ -88,10 +88,10 @@ module _ {m : LentMap} {other : List Marker} (a : Agree (m .list) other (m .coun
       → LinesDriveCall (with-list m other) sx sy dx dy labels region route state labels′ region′ route′ state′ r
   lines-drive-unread c =
       record {
-        given = asked-moved a (c .given) (λ e g. rw e at g);
-        labels-after = labels-moved a (c .given) (c .labels-after);
-        region-after = lines-region-moved a (c .given) (c .region-after);
-        route-after = joined-moved a (c .given) (c .route-after);
+        given = asked-moved m a (c .given) (λ e g. rw e at g);
+        labels-after = labels-moved m a (c .given) (c .labels-after);
+        region-after = lines-region-moved m a (c .given) (c .region-after);
+        route-after = joined-moved m a (c .given) (c .route-after);
       }
 
 -- Places that rows 4 and 8 pass are open.

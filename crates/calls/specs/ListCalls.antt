@@ -34,7 +34,7 @@ pub record EnterPassed (m : LentMap) (id x y : ℕ) : Type 0 where
   pub room : m .count < length (m .list)
   pub few : m .count < most-markers
 
-module _ {m : LentMap} {id x y : ℕ} {list′ : List Marker} {r : Counted} (c : EnterCall m id x y list′ r) where
+module _ {m : LentMap} {id x y height : ℕ} {list′ : List Marker} {r : Counted} (c : EnterCall m id x y height list′ r) where
   pub enter-passed : r .refusal ≡ 0 → EnterPassed m id x y
   enter-passed z =
       let t = gives-none (Rules.enter-table m id x y) 0 (r .refusal) (omega arith) (c .given) z in
@@ -78,14 +78,14 @@ MapReached m = Reached (m .width) (m .height) (m .list) (m .count)
 -- refused is nothing.
 pub calls-reached : {m : LentMap} → Calls m → MapReached m
 calls-reached (start f) = Reached.start f
-calls-reached (enter {m} {next} {after} id x y r s c o) = go (calls-reached s) (ℕ-discrete (r .refusal) 0)
+calls-reached (enter {m} {next} {after} id x y height r s c o) = go (calls-reached s) (ℕ-discrete (r .refusal) 0)
   where
     go : MapReached m → Dec (r .refusal ≡ 0) → MapReached next
     go t (yes z) =
         let p = enter-passed c z in
         let d = c .done z in
         subst MapReached (sym (o .new z))
-        (Reached.enter (marker id x y) t (p .some-id) (p .on) (p .fresh) (p .room) (p .few) (d .list) (d .counted))
+        (Reached.enter (marker id x y height) t (p .some-id) (p .on) (p .fresh) (p .room) (p .few) (d .list) (d .counted))
     go t (no z) = subst MapReached (sym (o .old z)) t
 calls-reached (clear {m} {next} {after} id r s c o) = go (calls-reached s) (ℕ-discrete (r .refusal) 0)
   where
@@ -108,12 +108,12 @@ as-often {k} {before} {after} f t = (f t, λ p. let s = times-some k before in s
 same-often : {k : Marker} {m next : LentMap} → next ≡ m → AsOften k (markersIn m) (markersIn next)
 same-often e t = rw e (λ p. p, λ p. p)
 
-module _ {m next : LentMap} {id x y : ℕ} {list′ : List Marker} {r : Counted} (c : EnterCall m id x y list′ r) (o : GoesOn m list′ r next) where
+module _ {m next : LentMap} {id x y height : ℕ} {list′ : List Marker} {r : Counted} (c : EnterCall m id x y height list′ r) (o : GoesOn m list′ r next) where
   -- The markers in use after a call that succeeds.
   enter-next : r .refusal ≡ 0 → markersIn next ≡ inUse list′ (m .count + 1)
   enter-next z = ap markersIn (o .new z) ∙ ap (inUse list′) (c .done z .counted)
 
-  pub enter-others : (k : Marker) → ¬ Same (marker id x y) k → AsOften k (markersIn m) (markersIn next)
+  pub enter-others : (k : Marker) → ¬ Same (marker id x y height) k → AsOften k (markersIn m) (markersIn next)
   enter-others k d = go (ℕ-discrete (r .refusal) 0)
     where
       go : Dec (r .refusal ≡ 0) → AsOften k (markersIn m) (markersIn next)
@@ -122,10 +122,10 @@ module _ {m next : LentMap} {id x y : ℕ} {list′ : List Marker} {r : Counted}
           (as-often (λ t. entered-other (enter-passed c z .room) (c .done z .list) d))
       go (no z) = same-often (o .old z)
 
-  pub enter-once : r .refusal ≡ 0 → Times (marker id x y) (markersIn next) 1
+  pub enter-once : r .refusal ≡ 0 → Times (marker id x y height) (markersIn next) 1
   enter-once z =
       let p = enter-passed c z in
-      subst (λ (l : List Marker). Times (marker id x y) l 1) (sym (enter-next z)) (entered-once (p .room) (c .done z .list) (p .fresh))
+      subst (λ (l : List Marker). Times (marker id x y height) l 1) (sym (enter-next z)) (entered-once (p .room) (c .done z .list) (p .fresh))
 
 module _ {m next : LentMap} {id : ℕ} {list′ : List Marker} {r : Counted} (c : ClearCall m id list′ r) (o : GoesOn m list′ r next) where
   pub clear-others : (k : Marker) → ¬ (k .id ≡ id) → AsOften k (markersIn m) (markersIn next)
@@ -148,11 +148,11 @@ module _ {m next : LentMap} {id : ℕ} {list′ : List Marker} {r : Counted} (c 
 -- its id. Entering its id again is refused, since the id is in use.
 pub spared : {m next : LentMap} {k : Marker} → Times k (markersIn m) 1 → Sparing (k .id) m next → Times k (markersIn next) 1
 spared p (sequences.Sparing.start e) = rw e p
-spared {k = k} p (sequences.Sparing.enter {mid} {next} new x y r s c o) = go (ℕ-discrete (r .refusal) 0) (spared p s)
+spared {k = k} p (sequences.Sparing.enter {mid} {next} new x y height r s c o) = go (ℕ-discrete (r .refusal) 0) (spared p s)
   where
     go : Dec (r .refusal ≡ 0) → Times k (markersIn mid) 1 → Times k (markersIn next) 1
     go (yes z) t =
-        let other : ¬ Same (marker new x y) k =
+        let other : ¬ Same (marker new x y height) k =
         λ e. let none : _≡_ {A = ℕ} 1 0 = times-one t (times-fresh (λ u. enter-passed c z .fresh (subst (InUse (mid .list) (mid .count)) (sym (e .id)) u))) in omega arith in
         enter-others c o k other 1 .0 t
     go (no z) t = same-often (o .old z) 1 .0 t

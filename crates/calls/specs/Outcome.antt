@@ -62,7 +62,7 @@ use Rattle.calls.specs.declared.ReadMap.{ReadMap}
 use Rattle.calls.specs.declared.WroteMap.{WroteMap}
 
 module _ {m : LentMap} where
-  pub enter-one : {id x y : ℕ} {a b : List Marker} {r s : Counted} → EnterCall m id x y a r → EnterCall m id x y b s → (r ≡ s) × (a ≡ b)
+  pub enter-one : {id x y height : ℕ} {a b : List Marker} {r s : Counted} → EnterCall m id x y height a r → EnterCall m id x y height b s → (r ≡ s) × (a ≡ b)
   enter-one {id} {x} {y} {a} {b} {r} {s} p q = go (ℕ-discrete (r .refusal) 0)
     where
       e : r .refusal ≡ s .refusal
@@ -200,7 +200,7 @@ module _ {m : LentMap} where
           let u = p .done z in
           let v = q .done (sym e ∙ z) in
           let f : u .file ≡ v .file =
-          written-one (m .width) (m .height) (RocksOf m) (rocks-told (markersIn m) (m .width) (m .height)) (u .file) (v .file) (u .written) (v .written) in (
+          written-one (m .width) (m .height) (RocksOf m) (rocks-told (m .clearance) (markersIn m) (m .width) (m .height)) (u .file) (v .file) (u .written) (v .written) in (
             wrote-same e (u .counted ∙ ap length f ∙ sym (v .counted)),
             u .is ∙ ap (λ (l : List ℕ). l ++ drop (length l) out) f ∙ sym (v .is),
           )

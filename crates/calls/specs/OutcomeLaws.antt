@@ -176,5 +176,5 @@ both-true false true p q = p .1 (q .0 (λ i. true))
 both-true false false p q = λ i. false
 
 -- Whether a crossing is a rock can be told.
-pub rocks-told : (list : List Marker) (w h : ℕ) → Tellable w h (Rock list)
-rocks-told list w h x y o = test-dec (rockOf list x y) (of-rock list x y, rock-of list x y)
+pub rocks-told : (clearance : ℕ) (list : List Marker) (w h : ℕ) → Tellable w h (Rock clearance list)
+rocks-told clearance list w h x y o = test-dec (rockOf clearance list x y) (of-rock clearance list x y, rock-of clearance list x y)

@@ -7,8 +7,8 @@ use Prim.Native.Nat.{ℕ, zero, suc, _<_, _≤_, _+_, _*_, zero-le}
 use native.Mathlib.Omega.{arith}
 use lib.ListN.{length, length-replicate}
 use Rattle.field.specs.declared.Marker.{Marker}
-use Rattle.field.specs.Map.{Sides, On, most-markers, gap}
-use Rattle.field.specs.Limits.{side-number, side-is}
+use Rattle.field.specs.Map.{Sides, On, most-markers, tallest, gap}
+use Rattle.field.specs.Limits.{side-number, side-is, tallest-some}
 use Rattle.field.specs.Labels.{blank, rock, Open}
 use Rattle.field.specs.Distances.{Assured}
 use Rattle.field.specs.Drives.{ShortestDrive}
@@ -45,6 +45,9 @@ use Rattle.calls.specs.RefusalTable.{
   over,
   one-rock,
   two-on-one,
+  low-on-one,
+  both-low,
+  low-off,
   zeros,
   table,
 }
@@ -77,7 +80,7 @@ numberOf (write m out n) = n
 
 -- Where the rules give the number, the promise allows no other.
 given : (r : Row) → Gives (rulesOf r) (numberOf r) → Holds r
-given (enter m id x y n) g = (g, λ list′ r p. gives-one (Rules.enter-table m id x y) _ _ (p .given) g)
+given (enter m id x y n) g = (g, λ height list′ r p. gives-one (Rules.enter-table m id x y) _ _ (p .given) g)
 given (clear m id n) g = (g, λ list′ r p. gives-one (Rules.clear-table m id) _ _ (p .given) g)
 given (label m labels n) g = (g, λ labels′ r p. gives-one (Rules.label-table m labels) _ _ (p .given) g)
 given (distances m x y labels n) g = (g, λ labels′ r p. gives-one (Rules.distances-table m x y labels) _ _ (p .given) g)
@@ -133,7 +136,18 @@ two-formed : Formed two-on-one
 unfolding most-markers every ListRows.goodAt ListRows.risesAt ListRows.formedOf ListRows.passes
 two-formed = ListRows.passes-holds (Lists.formed (markersOn (place 7 0 ∷ place 7 0 ∷ [])) 2) refl
 
-empty-formed : Formed (lentMap [] 0 side-number 1)
+low-formed : Formed low-on-one
+unfolding most-markers every ListRows.goodAt ListRows.risesAt ListRows.formedOf ListRows.passes
+low-formed = ListRows.passes-holds (Lists.formed (low-on-one .list) 2) refl
+
+both-formed : Formed both-low
+unfolding most-markers every ListRows.goodAt ListRows.risesAt ListRows.formedOf ListRows.passes
+both-formed = ListRows.passes-holds (Lists.formed (both-low .list) 2) refl
+
+low-off-bad : ¬ Formed low-off
+low-off-bad f = omega (arith, f .on 0 (omega arith) .in-x)
+
+empty-formed : Formed (lentMap [] 0 side-number 1 0)
 empty-formed =
     record { few = zero-le; lent = omega arith; some-id = λ k l. absurd (omega arith); on = λ k l. absurd (omega arith); rising = λ k l. absurd (omega arith) }
 
@@ -178,7 +192,7 @@ end-open = first (all-hold (Examples.assured R 7 4 7 4 ∷ []) refl) .home
 
 -- (4,3) is a rock's crossing.
 rock-closed : ClosedBy full 4 3
-rock-closed = rock {x = 4} {y = 3} (record { in-x = omega arith; in-y = omega arith }) (record { slot = 1; in-use = omega arith; x-is = refl; y-is = refl })
+rock-closed = rock {x = 4} {y = 3} (record { in-x = omega arith; in-y = omega arith }) (record { slot = 1; in-use = omega arith; x-is = refl; y-is = refl; stops = tallest-some })
 
 -- Ends that are open.
 open-ends : {x y a b : ℕ} → Open wide high (ClosedBy full) x y → Open wide high (ClosedBy full) a b → ¬ AnEndClosed (ClosedBy full) x y a b
@@ -224,7 +238,7 @@ file : List ℕ
 file = 80 ∷ 52 ∷ 10 ∷ 56 ∷ 32 ∷ 56 ∷ 10 ∷ 0 ∷ 0 ∷ 0 ∷ 0 ∷ 0 ∷ 0 ∷ 0 ∷ 1 ∷ []
 
 file-written : (l : List ℕ) → Written wide high (RocksOf one-rock) l ↔ l ≡ file
-unfolding file row rowsFrom sheet rockOf stands every same valueFrom most-digits rowBytes packedBit FileRows.digitOf FileRows.plainOf FileRows.crossingOf FileRows.padOf FileRows.byteOf FileRows.packedOf FileRows.digitsIn FileRows.widthIn FileRows.heightIn FileRows.rowsIn FileRows.writtenOf FileRows.passes
+unfolding file tallest row rowsFrom sheet rockOf stands every same valueFrom most-digits rowBytes packedBit FileRows.digitOf FileRows.plainOf FileRows.crossingOf FileRows.padOf FileRows.byteOf FileRows.packedOf FileRows.digitsIn FileRows.widthIn FileRows.heightIn FileRows.rowsIn FileRows.writtenOf FileRows.passes
 file-written = FileRows.passes-holds (Files.is-written wide high (place 7 0 ∷ []) file) refl
 
 file-length : length file ≡ 15
@@ -236,6 +250,12 @@ not-shared s = s .two (omega (arith, s .j-below, s .k-below))
 
 shared : Shared (two-on-one .list) 2
 shared = record { j = 0; k = 1; j-below = omega arith; k-below = omega arith; two = λ e. omega arith; x = refl; y = refl }
+
+low-shared : Shared (low-on-one .list) 2
+low-shared = record { j = 0; k = 1; j-below = omega arith; k-below = omega arith; two = λ e. omega arith; x = refl; y = refl }
+
+both-shared : Shared (both-low .list) 2
+both-shared = record { j = 0; k = 1; j-below = omega arith; k-below = omega arith; two = λ e. omega arith; x = refl; y = refl }
 
 too-short : TooShort wide high (RocksOf one-rock) (zeros 14)
 too-short = record { file = file; written = file-written file .1 refl; short = omega (arith, file-length, length-replicate {A = ℕ} 14 0) }
@@ -285,4 +305,7 @@ refusal-rows-hold =
     also (inr (good-size, inr (λ l. l two-formed, inl (shared, refl)))) $
     also (inr (good-size, inr (λ l. l one-formed, inr (not-shared, inl (too-short, refl))))) $
     also (inr (good-size, inr (λ l. l one-formed, inr (not-shared, inr (just-fits, refl))))) $
+    also (inr (good-size, inr (λ l. l low-formed, inl (low-shared, refl)))) $
+    also (inr (good-size, inr (λ l. l both-formed, inl (both-shared, refl)))) $
+    also (inr (good-size, inr (one-fits, inl (low-off-bad, refl)))) $
     none

@@ -9,6 +9,7 @@ use Rattle.field.specs.declared.Marker.{Marker}
 use Rattle.field.specs.Limits.{side-number}
 use Rattle.field.specs.Labels.{blank}
 use Rattle.field.specs.Table.{place, R, wide, high, markersOn}
+use Rattle.markers.specs.Promise.{marker}
 use Rattle.calls.specs.Rules
 use Rattle.calls.specs.Rules.{Gives, LentMap, lentMap}
 use Rattle.calls.specs.Calls.{EnterCall, ClearCall, LabelCall, DistancesCall, HopCall, RegionCall, DriveCall, WriteCall}
@@ -34,7 +35,7 @@ pub data Row : Type 0 where
 -- The call's rules give n, and its promise allows no other number.
 abbrev pub Holds : Row → Type 0
 Holds (enter m id x y n) =
-    Gives (Rules.enter-table m id x y) n × ((list′ : List Marker) (r : Counted) → EnterCall m id x y list′ r → r .refusal ≡ n)
+    Gives (Rules.enter-table m id x y) n × ((height : ℕ) (list′ : List Marker) (r : Counted) → EnterCall m id x y height list′ r → r .refusal ≡ n)
 Holds (clear m id n) =
     Gives (Rules.clear-table m id) n × ((list′ : List Marker) (r : Counted) → ClearCall m id list′ r → r .refusal ≡ n)
 Holds (label m labels n) =
@@ -58,21 +59,32 @@ Holds (write m out n) =
 -- The map of document 01's examples, 8 by 8: its list has the rocks R with ids 1, 2 and 3, and
 -- every slot lent is in use; or one slot is left.
 abbrev pub full : LentMap
-full = lentMap (markersOn R) 3 wide high
+full = lentMap (markersOn R) 3 wide high 0
 
 abbrev pub roomy : LentMap
-roomy = lentMap (markersOn R ++ blank ∷ []) 3 wide high
+roomy = lentMap (markersOn R ++ blank ∷ []) 3 wide high 0
 
 -- One more is said to be in use than there are slots.
 abbrev pub over : LentMap
-over = lentMap (markersOn R) 4 wide high
+over = lentMap (markersOn R) 4 wide high 0
 
 -- One marker, and a second on the same crossing.
 abbrev pub one-rock : LentMap
-one-rock = lentMap (markersOn (place 7 0 ∷ [])) 1 wide high
+one-rock = lentMap (markersOn (place 7 0 ∷ [])) 1 wide high 0
 
 abbrev pub two-on-one : LentMap
-two-on-one = lentMap (markersOn (place 7 0 ∷ place 7 0 ∷ [])) 2 wide high
+two-on-one = lentMap (markersOn (place 7 0 ∷ place 7 0 ∷ [])) 2 wide high 0
+
+-- The second one low, for a cart that passes over it; both low; and one of no height off the map
+-- (document 02, Req 08).
+abbrev pub low-on-one : LentMap
+low-on-one = lentMap (marker 1 7 0 90 ∷ marker 2 7 0 5 ∷ []) 2 wide high 10
+
+abbrev pub both-low : LentMap
+both-low = lentMap (marker 1 7 0 9 ∷ marker 2 7 0 0 ∷ []) 2 wide high 10
+
+abbrev pub low-off : LentMap
+low-off = lentMap (marker 1 8 0 0 ∷ []) 1 wide high 10
 
 -- A sheet, a route or an output of n zeros.
 abbrev pub zeros : ℕ → List ℕ
@@ -83,11 +95,11 @@ unfoldable pub table : List Row
 table =
     -- 1 before 2 and 3: a map of width 0 or over the limit, with a sheet that is not of its size,
     -- and with markers off the map or more in use than lent.
-    enter (lentMap (markersOn R) 3 0 8) 9 0 0 1
-    ∷ clear (lentMap (markersOn R) 4 8 0) 1 1
-    ∷ label (lentMap (markersOn R) 4 (side-number + 1) 8) (zeros 64) 1
+    enter (lentMap (markersOn R) 3 0 8 0) 9 0 0 1
+    ∷ clear (lentMap (markersOn R) 4 8 0 0) 1 1
+    ∷ label (lentMap (markersOn R) 4 (side-number + 1) 8 0) (zeros 64) 1
     -- The limit itself is not over the limit.
-    ∷ label (lentMap [] 0 side-number 1) (zeros side-number) 0
+    ∷ label (lentMap [] 0 side-number 1 0) (zeros side-number) 0
     -- 2 before 3, and 3 where the sheet is of the map's size.
     ∷ label over (zeros 63) 2
     ∷ label over (zeros 64) 3
@@ -126,4 +138,9 @@ table =
     ∷ write two-on-one [] 16
     ∷ write one-rock (zeros 14) 17
     ∷ write one-rock (zeros 15) 0
+    -- "16 looks at all markers, low ones included": one of two, and both. A list whose only fault
+    -- is in a low marker is 3 all the same.
+    ∷ write low-on-one (zeros 15) 16
+    ∷ write both-low (zeros 15) 16
+    ∷ label low-off (zeros 64) 3
     ∷ []

@@ -60,7 +60,7 @@ Differ [] = Unit {0}
 Differ (r ∷ rs) = Unlisted (r .number) rs × Differ rs
 
 -- What is given is listed, or 0.
-gives-listed : (rules : List Rule) (k n : ℕ) → Unlisted k rules → Gives rules n → ¬ (k ≡ n)
+pub gives-listed : (rules : List Rule) (k n : ℕ) → Unlisted k rules → Gives rules n → ¬ (k ≡ n)
 gives-listed [] k n u g e = u (e ∙ g)
 gives-listed (r ∷ rs) k n u (inl p) e = u .0 (e ∙ p .1)
 gives-listed (r ∷ rs) k n u (inr p) e = gives-listed rs k n (u .1) (p .1) e

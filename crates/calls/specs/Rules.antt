@@ -15,7 +15,7 @@ use Rattle.field.specs.Drives.{HasDrive}
 use Rattle.markers.specs.List.{slot, InUse}
 use Rattle.mapfile.specs.Written.{Written}
 pub use Rattle.calls.specs.Rule.{Rule, rule, Gives, gives-one}
-pub use Rattle.calls.specs.LentMap.{LentMap, lentMap, Sized, OnIt, Formed, markersIn, RocksOf, ClosedBy}
+pub use Rattle.calls.specs.LentMap.{LentMap, lentMap, lentList, with-clearance, Sized, OnIt, Formed, markersIn, RocksOf, ClosedBy}
 
 -- 1: "width or height is 0 or over 64"; "1, 3 and 7 read the new limits" (Req 07): 256 and 8,192
 abbrev pub size-rule : LentMap → Rule
@@ -81,7 +81,8 @@ route-rule sx sy dx dy route = rule short-route (length route < dist sx sy dx dy
 abbrev pub assured-rule : ℕ → ℕ → (ℕ → ℕ → Type 0) → ℕ → ℕ → ℕ → ℕ → Rule
 assured-rule w h C hx hy x y = rule not-assured (¬ Assured w h C hx hy x y)
 
--- 16: "two markers on one crossing, when writing": two slots in use hold them.
+-- 16: "two markers on one crossing, when writing": two slots in use hold them. "16 looks at all
+-- markers, low ones included" (document 02, Req 08): so nothing is said of heights.
 pub record Shared (list : List Marker) (count : ℕ) : Type 0 where
   pub j : ℕ
   pub k : ℕ

@@ -15,7 +15,7 @@ use Rattle.calls.specs.declared.ReadMap.{ReadMap}
 -- What the caller goes on with after entering or clearing: the list as the call left it, with the
 -- count that was handed back, on the same map; or what was lent, where the call was refused.
 pub record GoesOn (m : LentMap) (after : List Marker) (r : Counted) (next : LentMap) : Type 0 where
-  pub new : r .refusal ≡ 0 → next ≡ lentMap after (r .count) (m .width) (m .height)
+  pub new : r .refusal ≡ 0 → next ≡ lentMap after (r .count) (m .width) (m .height) (m .clearance)
   pub old : ¬ (r .refusal ≡ 0) → next ≡ m
 
 -- And after reading: the map that was read, with the count, the width and the height that were
@@ -28,7 +28,8 @@ pub record GoesOnRead (m : LentMap) (after : List Marker) (r : ReadMap) (next : 
 -- list: such as one with nothing in use, whatever its slots hold.
 pub data Calls : LentMap → Type 0 where
   start : {m : LentMap} → Formed m → Calls m
-  enter : {m next : LentMap} {after : List Marker} (id x y : ℕ) (r : Counted) → Calls m → EnterCall m id x y after r → GoesOn m after r next → Calls next
+  enter : {m next : LentMap} {after : List Marker} (id x y height : ℕ) (r : Counted) → Calls m → EnterCall m id x y height after r → GoesOn m after r next
+      → Calls next
   clear : {m next : LentMap} {after : List Marker} (id : ℕ) (r : Counted) → Calls m → ClearCall m id after r → GoesOn m after r next → Calls next
   read : {m next : LentMap} {after : List Marker} (file : List ℕ) (r : ReadMap) → Calls m → ReadCall file (m .list) after r → GoesOnRead m after r next
       → Calls next
@@ -38,7 +39,7 @@ pub data Calls : LentMap → Type 0 where
 -- another.
 pub data Sparing (id : ℕ) (m : LentMap) : LentMap → Type 0 where
   start : {next : LentMap} → next ≡ m → Sparing id m next
-  enter : {mid next : LentMap} {after : List Marker} (new x y : ℕ) (r : Counted) → Sparing id m mid → EnterCall mid new x y after r
+  enter : {mid next : LentMap} {after : List Marker} (new x y height : ℕ) (r : Counted) → Sparing id m mid → EnterCall mid new x y height after r
       → GoesOn mid after r next → Sparing id m next
   clear : {mid next : LentMap} {after : List Marker} (old : ℕ) (r : Counted) → ¬ (id ≡ old) → Sparing id m mid → ClearCall mid old after r
       → GoesOn mid after r next → Sparing id m next
@@ -53,8 +54,8 @@ Names r a b = ((1 ≤ r .hops) × (r .x ≡ a) × (r .y ≡ b)) ⊎ ((2 ≤ r .h
 abbrev pub SaysThere : Homeward → Type 0
 SaysThere r = r .hops ≡ 0
 
--- A cart that asks for hops home to (hx, hy) from (x, y), lends any label sheet each time, and
--- moves to any crossing that the answer names: after n hops it is at (a, b).
+-- A cart that asks for hops home to (hx, hy) from (x, y), with its clearance, lends any label sheet
+-- each time, and moves to any crossing that the answer names: after n hops it is at (a, b).
 pub data Journey (m : LentMap) (hx hy x y : ℕ) : ℕ → ℕ → ℕ → Type 0 where
   start : {n a b : ℕ} → n ≡ 0 → a ≡ x → b ≡ y → Journey m hx hy x y n a b
   move : {n k a b c d : ℕ} {labels labels′ : List ℕ} {r : Homeward} → Journey m hx hy x y n a b → HopCall m hx hy a b labels labels′ r

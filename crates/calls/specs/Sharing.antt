@@ -13,11 +13,13 @@ use lib.ListN.{length, getD, set, replicate, length-replicate}
 use borrow.Author.Tests.{lt-ltb, le-ltb}
 use Rattle.field.specs.declared.Marker.{Marker}
 use Rattle.field.specs.Map.{On, number, at}
+use Rattle.field.specs.Labels.{RockOn, Count}
 use Rattle.field.specs.Workings.Tests.{bit}
 use Rattle.field.specs.Workings.MarkCount.{marks, Among, marks-mono}
+use Rattle.field.specs.Workings.MarkTally.{count-sheet}
 use Rattle.field.specs.Workings.Sheet.{number-lt, Crossing, crossing}
 use Rattle.markers.specs.List.{slot, WellFormed}
-use Rattle.markers.specs.Laws.Rocks.{Stands, rock-stands, stands-rock}
+use Rattle.markers.specs.Laws.Rocks.{Stands, Any}
 use Rattle.markers.specs.Laws.Stamping.{Stamping, stamping-start, stamping-more}
 use Rattle.calls.specs.Rules.{Shared}
 
@@ -64,23 +66,23 @@ module _ (w h : ℕ) (list : List Marker) where
   drawn zero = zeros (h * w)
   drawn (suc k) = set (drawn k) (number w (slot list k .x) (slot list k .y)) 1
 
-  pub drawn-is : (k : ℕ) → OnMap k → Stamping w h x-of y-of k (drawn k)
+  pub drawn-is : (k : ℕ) → OnMap k → Stamping w h x-of y-of (λ j. Unit {0}) k (drawn k)
   unfolding drawn zeros x-of y-of
   drawn-is zero on =
-      stamping-start w h x-of y-of (drawn 0) (drawn 0) (length-replicate {A = ℕ} (h * w) 0) (record { size = refl; zeros = zeros-at (h * w) })
+      stamping-start w h x-of y-of (λ j. Unit {0}) (drawn 0) (drawn 0) (length-replicate {A = ℕ} (h * w) 0) (record { size = refl; zeros = zeros-at (h * w) })
   drawn-is (suc k) on =
-      subst (λ (n : ℕ). Stamping w h x-of y-of n (drawn (suc k))) (add-one k)
-      (stamping-more {w = w} {h = h} {k = k} {x = x-of} {y = y-of} (on k (omega arith)) (drawn-is k (λ j l. on j (omega arith))))
+      subst (λ (n : ℕ). Stamping w h x-of y-of (λ j. Unit {0}) n (drawn (suc k))) (add-one k)
+      (stamping-more {w = w} {h = h} {k = k} {x = x-of} {y = y-of} (on k (omega arith)) tt (drawn-is k (λ j l. on j (omega arith))))
 
   -- Its marks are the crossings on which they stand.
-  pub drawn-stands : (k x y : ℕ) → OnMap k → Stands list k x y → 0 < at (drawn k) w x y
+  pub drawn-stands : (k x y : ℕ) → OnMap k → Stands Any list k x y → 0 < at (drawn k) w x y
   unfolding x-of y-of
-  drawn-stands k x y on t = rw (← t .x-is, ← t .y-is) (drawn-is k on .complete (t .place) (t .below))
+  drawn-stands k x y on t = rw (← t .x-is, ← t .y-is) (drawn-is k on .complete (t .place) (t .below) tt)
 
-  pub stands-drawn : (k x y : ℕ) → OnMap k → On w h x y → 0 < at (drawn k) w x y → Stands list k x y
+  pub stands-drawn : (k x y : ℕ) → OnMap k → On w h x y → 0 < at (drawn k) w x y → Stands Any list k x y
   unfolding x-of y-of
   stands-drawn k x y on o m =
-      let p = drawn-is k on .sound x y o m in record { place = p .place; below = p .below; x-is = p .x-is; y-is = p .y-is }
+      let p = drawn-is k on .sound x y o m in record { place = p .place; below = p .below; x-is = p .x-is; y-is = p .y-is; such = tt }
 
   -- No two of the first k markers stand on one crossing, and there are k marks; or two do, and
   -- there are fewer.
@@ -114,7 +116,7 @@ module _ (w h : ℕ) (list : List Marker) where
   unfolding drawn x-of y-of
   told-new k on m t = go t
     where
-      s : Stamping w h x-of y-of k (drawn k)
+      s : Stamping w h x-of y-of (λ j. Unit {0}) k (drawn k)
       s = drawn-is k (λ j l. on j (omega arith))
 
       more : marks (drawn (suc k)) ≡ marks (drawn k) + 1
@@ -127,7 +129,7 @@ module _ (w h : ℕ) (list : List Marker) where
       apart d i j l b p q (yes e) =
           let u : slot list i .x ≡ slot list k .x = p ∙ ap (λ (n : ℕ). slot list n .x) e in
           let v : slot list i .y ≡ slot list k .y = q ∙ ap (λ (n : ℕ). slot list n .y) e in
-          omega (arith, m, s .complete i (omega arith), ap (λ (a : ℕ). at (drawn k) w a (slot list i .y)) u, ap (λ (b : ℕ). at (drawn k) w (slot list k .x) b) v)
+          omega (arith, m, s .complete i (omega arith) tt, ap (λ (a : ℕ). at (drawn k) w a (slot list i .y)) u, ap (λ (b : ℕ). at (drawn k) w (slot list k .x) b) v)
 
       go : MarksTold k (marks (drawn k)) → MarksTold (suc k) (marks (drawn (suc k)))
       go (inl (n, d)) = inl (omega (arith, more), λ i j l b p q. apart d i j l b p q (ℕ-discrete j k))
@@ -165,11 +167,12 @@ module _ (w h : ℕ) (list : List Marker) where
       go (yes l) = d (t .j) (t .k) l (t .k-below) (t .x) (t .y)
       go (no l) = d (t .k) (t .j) (omega (arith, t .two)) (t .j-below) (sym (t .x)) (sym (t .y))
 
--- Lists whose markers stand on the same crossings of the map, each list with no two markers on one
--- of them, have as many markers: each has as many as there are marks, and the marks are the same.
+-- A list with no two markers on one crossing has as many markers as there are crossings on which
+-- they stand: it has as many as there are marks. So where every marker of one such list stands
+-- where one of another does, it has no more of them.
 module _ {w h : ℕ} where
   drawn-among : (list other : List Marker) (count more : ℕ) → OnMap w h list count → OnMap w h other more
-      → ((x y : ℕ) → Stands list count x y → Stands other more x y) → Among (drawn w h list count) (drawn w h other more)
+      → ((x y : ℕ) → Stands Any list count x y → Stands Any other more x y) → Among (drawn w h list count) (drawn w h other more)
   drawn-among list other count more on on′ f i l = at-crossing (crossing w h i (omega (arith, drawn-is w h list count on .size)))
     where
       at-crossing : Crossing w h i → 0 < getD (drawn w h list count) i 0 → 0 < getD (drawn w h other more) i 0
@@ -184,15 +187,23 @@ module _ {w h : ℕ} where
       go (inl t) = t .0
       go (inr t) = absurd (n (t .1))
 
-  pub apart-count : {list other : List Marker} {count more : ℕ} → OnMap w h list count → OnMap w h other more
-      → ((x y : ℕ) → Stands list count x y ↔ Stands other more x y) → ¬ Shared list count → ¬ Shared other more → count ≡ more
-  apart-count {list} {other} {count} {more} on on′ same n n′ = omega (arith, there, back, drawn-apart list count on n, drawn-apart other more on′ n′)
-    where
-      long : length (drawn w h list count) ≡ length (drawn w h other more)
-      long = drawn-is w h list count on .size ∙ sym (drawn-is w h other more on′ .size)
+  pub apart-fewer : {list other : List Marker} {count more : ℕ} → OnMap w h list count → OnMap w h other more
+      → ((x y : ℕ) → Stands Any list count x y → Stands Any other more x y) → ¬ Shared list count → ¬ Shared other more → count ≤ more
+  apart-fewer {list} {other} {count} {more} on on′ f n n′ =
+      omega (
+        arith,
+        marks-mono (drawn w h list count) (drawn w h other more) (drawn-is w h list count on .size ∙ sym (drawn-is w h other more on′ .size))
+            (drawn-among list other count more on on′ f),
+        drawn-apart list count on n,
+        drawn-apart other more on′ n′,
+      )
 
-      there : marks (drawn w h list count) ≤ marks (drawn w h other more)
-      there = marks-mono (drawn w h list count) (drawn w h other more) long (drawn-among list other count more on on′ (λ x y. same x y .0))
-
-      back : marks (drawn w h other more) ≤ marks (drawn w h list count)
-      back = marks-mono (drawn w h other more) (drawn w h list count) (sym long) (drawn-among other list more count on′ on (λ x y. same x y .1))
+  pub apart-counted : {list : List Marker} {count : ℕ} → OnMap w h list count → ¬ Shared list count
+      → Count w h (RockOn (Stands Any list count) w h) count
+  apart-counted {list} {count} on n =
+      subst (Count w h (RockOn (Stands Any list count) w h)) (drawn-apart list count on n)
+      (count-sheet {s = drawn w h list count} (drawn-is w h list count on .size)
+      (record {
+        sound = λ x y m. record { on = m .on; stone = stands-drawn w h list count x y on (m .on) (m .mark) };
+        complete = λ x y r. record { on = r .on; mark = drawn-stands w h list count x y on (r .stone) };
+      }))

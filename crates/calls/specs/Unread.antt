@@ -63,58 +63,58 @@ module _ {m : LentMap} {other : List Marker} (a : Agree (m .list) other (m .coun
   pub label-unread : {labels labels′ : List ℕ} {r : Labelling} → LabelCall m labels labels′ r → LabelCall (with-list m other) labels labels′ r
   label-unread c =
       record {
-        given = asked-moved a (c .given) (λ e g. g);
-        labels-after = labels-moved a (c .given) (c .labels-after);
+        given = asked-moved m a (c .given) (λ e g. g);
+        labels-after = labels-moved m a (c .given) (c .labels-after);
         refused = c .refused;
-        done = λ z. rw (asked-in-use a (c .given) (λ t. omega arith)) at (c .done z);
+        done = λ z. rw (asked-in-use m a (c .given) (λ t. omega arith)) at (c .done z);
       }
 
   pub distances-unread : {x y : ℕ} {labels labels′ : List ℕ} {r : Four} → DistancesCall m x y labels labels′ r → DistancesCall (with-list m other) x y labels labels′ r
   distances-unread c =
       record {
-        given = asked-moved a (c .given) (λ e g. g);
-        labels-after = labels-moved a (c .given) (c .labels-after);
+        given = asked-moved m a (c .given) (λ e g. g);
+        labels-after = labels-moved m a (c .given) (c .labels-after);
         refused = c .refused;
-        done = λ z. rw (asked-in-use a (c .given) (λ t. omega arith)) at (c .done z);
+        done = λ z. rw (asked-in-use m a (c .given) (λ t. omega arith)) at (c .done z);
       }
 
   pub measure-unread : {labels e s f n labels′ e′ s′ f′ n′ : List ℕ} {r : ℕ} → MeasureCall m labels e s f n labels′ e′ s′ f′ n′ r
       → MeasureCall (with-list m other) labels e s f n labels′ e′ s′ f′ n′ r
   measure-unread c =
       record {
-        given = asked-moved a (c .given) (λ e g. g);
-        labels-after = labels-moved a (c .given) (c .labels-after);
-        east-after = sheet-moved a (c .given) (c .east-after);
-        south-after = sheet-moved a (c .given) (c .south-after);
-        west-after = sheet-moved a (c .given) (c .west-after);
-        north-after = sheet-moved a (c .given) (c .north-after);
+        given = asked-moved m a (c .given) (λ e g. g);
+        labels-after = labels-moved m a (c .given) (c .labels-after);
+        east-after = sheet-moved m a (c .given) (c .east-after);
+        south-after = sheet-moved m a (c .given) (c .south-after);
+        west-after = sheet-moved m a (c .given) (c .west-after);
+        north-after = sheet-moved m a (c .given) (c .north-after);
       }
 
   pub assured-unread : {hx hy x y : ℕ} {labels labels′ : List ℕ} {r : Assurance} → AssuredCall m hx hy x y labels labels′ r → AssuredCall (with-list m other) hx hy x y labels labels′ r
   assured-unread c =
       record {
-        given = asked-moved a (c .given) (λ e g. rw e at g);
-        labels-after = labels-moved a (c .given) (c .labels-after);
+        given = asked-moved m a (c .given) (λ e g. rw e at g);
+        labels-after = labels-moved m a (c .given) (c .labels-after);
         refused = c .refused;
-        done = λ z. rw (asked-in-use a (c .given) (λ t. omega arith)) at (c .done z);
+        done = λ z. rw (asked-in-use m a (c .given) (λ t. omega arith)) at (c .done z);
       }
 
   pub hop-unread : {hx hy x y : ℕ} {labels labels′ : List ℕ} {r : Homeward} → HopCall m hx hy x y labels labels′ r → HopCall (with-list m other) hx hy x y labels labels′ r
   hop-unread c =
       record {
-        given = asked-moved a (c .given) (λ e g. rw e at g);
-        labels-after = labels-moved a (c .given) (c .labels-after);
+        given = asked-moved m a (c .given) (λ e g. rw e at g);
+        labels-after = labels-moved m a (c .given) (c .labels-after);
         refused = c .refused;
-        done = λ z. rw (asked-in-use a (c .given) (λ t. omega arith)) at (c .done z);
+        done = λ z. rw (asked-in-use m a (c .given) (λ t. omega arith)) at (c .done z);
       }
 
   pub region-unread : {sx sy dx dy : ℕ} {labels region labels′ region′ : List ℕ} {r : ℕ} → RegionCall m sx sy dx dy labels region labels′ region′ r
       → RegionCall (with-list m other) sx sy dx dy labels region labels′ region′ r
   region-unread c =
       record {
-        given = asked-moved a (c .given) (λ e g. rw e at g);
-        labels-after = labels-moved a (c .given) (c .labels-after);
-        region-after = region-moved a (c .given) (c .region-after);
+        given = asked-moved m a (c .given) (λ e g. rw e at g);
+        labels-after = labels-moved m a (c .given) (c .labels-after);
+        region-after = region-moved m a (c .given) (c .region-after);
       }
 
   pub drive-unread : {sx sy dx dy : ℕ} {labels region route labels′ region′ route′ : List ℕ} {state state′ : ℕ} {r : Drove}
@@ -122,10 +122,10 @@ module _ {m : LentMap} {other : List Marker} (a : Agree (m .list) other (m .coun
       → DriveCall (with-list m other) sx sy dx dy labels region route state labels′ region′ route′ state′ r
   drive-unread c =
       record {
-        given = asked-moved a (c .given) (λ e g. rw e at g);
-        labels-after = labels-moved a (c .given) (c .labels-after);
-        region-after = region-moved a (c .given) (c .region-after);
-        route-after = route-moved a (c .given) (c .route-after);
+        given = asked-moved m a (c .given) (λ e g. rw e at g);
+        labels-after = labels-moved m a (c .given) (c .labels-after);
+        region-after = region-moved m a (c .given) (c .region-after);
+        route-after = route-moved m a (c .given) (c .route-after);
       }
 
   pub route-unread : {sx sy dx dy : ℕ} {labels region route labels′ region′ part : List ℕ} {state number state′ : ℕ} {from at : ℕ × ℕ}
@@ -133,19 +133,19 @@ module _ {m : LentMap} {other : List Marker} (a : Agree (m .list) other (m .coun
       → RouteCall (with-list m other) sx sy dx dy labels region route state labels′ region′ part number state′ from at
   route-unread c =
       record {
-        given = asked-moved a (c .given) (λ e g. rw e at g);
-        labels-after = labels-moved a (c .given) (c .labels-after);
-        region-after = region-moved a (c .given) (c .region-after);
+        given = asked-moved m a (c .given) (λ e g. rw e at g);
+        labels-after = labels-moved m a (c .given) (c .labels-after);
+        region-after = region-moved m a (c .given) (c .region-after);
         empty = c .empty;
         still = c .still;
-        driven = λ z. rw (asked-in-use a (c .given) (λ t. omega arith)) at (c .driven z);
+        driven = λ z. rw (asked-in-use m a (c .given) (λ t. omega arith)) at (c .driven z);
         leading = c .leading;
       }
 
   pub write-unread : {out out′ : List ℕ} {r : WroteMap} → WriteCall m out out′ r → WriteCall (with-list m other) out out′ r
   write-unread {out} {out′} {r} c =
       record {
-        given = listed-moved a (c .given) own;
+        given = listed-moved m a (c .given) own;
         kept = c .kept;
         refused = c .refused;
         done = λ z. rw (agree-in-use a (lent-enough z)) at (c .done z);
@@ -166,7 +166,7 @@ module _ {m : LentMap} {other : List Marker} (a : Agree (m .list) other (m .coun
 -- clear-rest: every one, but that which entering takes, is as it was.
 module _ {m next : LentMap} {other list′ other′ : List Marker} {r s : Counted} (long : length (m .list) ≡ length other) (a : Agree (m .list) other (m .count))
     (o : GoesOn m list′ r next) where
-  pub enter-unread : {id x y : ℕ} → EnterCall m id x y list′ r → EnterCall (with-list m other) id x y other′ s → (r ≡ s) × Agree list′ other′ (next .count)
+  pub enter-unread : {id x y height : ℕ} → EnterCall m id x y height list′ r → EnterCall (with-list m other) id x y height other′ s → (r ≡ s) × Agree list′ other′ (next .count)
   enter-unread {id} {x} {y} p q = go (ℕ-discrete (r .refusal) 0)
     where
       rows : LentMap → List Rule
@@ -178,7 +178,7 @@ module _ {m next : LentMap} {other list′ other′ : List Marker} {r s : Counte
       own l (inr (t, inr (u, v))) = inr (t, inr (λ k. u (used-moved (λ i b. sym (agree-slots a l i b)) k), rw long at v))
 
       e : r .refusal ≡ s .refusal
-      e = gives-one (Rules.enter-table (with-list m other) id x y) _ _ (listed-moved a (p .given) own) (q .given)
+      e = gives-one (Rules.enter-table (with-list m other) id x y) _ _ (listed-moved m a (p .given) own) (q .given)
 
       go : Dec (r .refusal ≡ 0) → (r ≡ s) × Agree list′ other′ (next .count)
       go (yes z) =
@@ -202,7 +202,7 @@ module _ {m next : LentMap} {other list′ other′ : List Marker} {r s : Counte
       own l (inr t) = inr (λ u. t .0 (λ k. u (used-moved (agree-slots a l) k)), t .1)
 
       e : r .refusal ≡ s .refusal
-      e = gives-one (Rules.clear-table (with-list m other) id) _ _ (listed-moved a (p .given) own) (q .given)
+      e = gives-one (Rules.clear-table (with-list m other) id) _ _ (listed-moved m a (p .given) own) (q .given)
 
       go : Dec (r .refusal ≡ 0) → (r ≡ s) × Agree list′ other′ (next .count)
       go (yes z) =

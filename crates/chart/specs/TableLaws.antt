@@ -5,7 +5,8 @@ use mathlib.Core.List.{List, [], _∷_, _++_}
 use Prim.Native.Nat.{ℕ, zero, suc, _+_, _*_, _<_, _≤_}
 use native.Mathlib.Omega.{arith}
 use lib.ListN.{length}
-use Rattle.field.specs.Map.{most-markers, Sides}
+use Rattle.field.specs.Map.{most-markers, tallest, Sides}
+use Rattle.field.specs.Limits.{tallest-some}
 use Rattle.field.specs.Labels.{sumTo, RockOn, Closed, closed-on-map, closed-stable, Shut, Count}
 use Rattle.field.specs.Groups.{Groups}
 use Rattle.field.specs.Workings.Tests.{bit, test-dec}
@@ -84,7 +85,7 @@ line-of a b c d e p q r s t =
 -- The sheets and numbers of a file's map, computed.
 module _ (w h : ℕ) (bits : List ℕ) where
   unfoldable pub stones : List ℕ
-  stones = stamp w h (markersOf w h bits)
+  stones = stamp w h 0 (markersOf w h bits)
 
   unfoldable pub labelsOf : List ℕ
   labelsOf = labelling w h stones
@@ -101,7 +102,7 @@ module _ (w h : ℕ) (bits : List ℕ) where
   -- The text, where each of the five numbers has one digit. To unfold it is to unfold every working
   -- that it is computed with.
   unfoldable pub textOf : List ℕ
-  unfolding sumTo lit westOf southOf around row rowsFrom sheet closing until sweep next marks stamp rockOf stands labelling labelsFrom alone tally cornerOf groupsOf markersFrom markersOf pieces signOf signAt rowOf pictureOf stones labelsOf rockCount shutCount groupCount
+  unfolding tallest sumTo lit westOf southOf around row rowsFrom sheet closing until sweep next marks stamp rockOf stands labelling labelsFrom alone tally cornerOf groupsOf markersFrom markersOf pieces signOf signAt rowOf pictureOf stones labelsOf rockCount shutCount groupCount
   textOf =
       ((48 + w) ∷ 32 ∷ (48 + h) ∷ 32 ∷ (48 + rockCount) ∷ 32 ∷ (48 + shutCount) ∷ 32 ∷ (48 + groupCount) ∷ 10 ∷ []) ++ pictureOf labelsOf w h
 
@@ -126,10 +127,10 @@ module _ {file bits : List ℕ} {w h : ℕ} (m : MapFile file w h bits) where
   rocks-draw : Draws w h (RockOn R w h) r
   unfolding stones
   rocks-draw =
-      let d = stamp-draws w h (markersOf w h bits) in
+      let d = stamp-draws 0 w h (markersOf w h bits) in
       record {
-        sound = λ x y k. let s = d .sound x y k in record { on = s .on; stone = markers-of m x y .0 (s .stone) };
-        complete = λ x y k. d .complete x y (record { on = k .on; stone = markers-of m x y .1 (k .stone) });
+        sound = λ x y k. let s = d .sound x y k in record { on = s .on; stone = markers-of m 0 x y tallest-some .0 (s .stone) };
+        complete = λ x y k. d .complete x y (record { on = k .on; stone = markers-of m 0 x y tallest-some .1 (k .stone) });
       }
 
   closed-draw : Draws w h (Closed R w h) c

@@ -6,7 +6,6 @@ use Prim.Native.Nat.{ℕ}
 use native.Mathlib.Omega.{arith}
 use lib.ListN.{length, drop}
 use Rattle.field.specs.Refusals.{success}
-use Rattle.field.specs.Workings.MarkCount.{marks}
 use Rattle.field.specs.Workings.Sheet.{Marked}
 use Rattle.field.specs.Workings.Marks.{marked-dec}
 use Rattle.mapfile.specs.WrittenLaws.{written-one}
@@ -21,13 +20,12 @@ use Rattle.calls.specs.Answers.{ReadFault}
 use Rattle.calls.specs.Exactly.{fault-number}
 use Rattle.exchange.specs.Promise.{WriteRest, wroteMap, ReadFirst, readMap}
 
--- Nothing is refused before, and no two markers share a crossing: the file is written, or the
--- output is too short for it.
-pub rest-written : {n count w h : ℕ} {sheet out out′ : List ℕ} (answer : Wrote) → n ≡ success → marks sheet ≡ count → Writes w h sheet out out′ answer
-    → WriteRest n count w h sheet out out′ (wroteMap answer)
-rest-written {w = w} {h = h} {sheet = sheet} {out = out} (Bytes i) z k q =
+-- Nothing is refused before: the file is written, or the output is too short for it.
+pub rest-written : {n w h : ℕ} {sheet out out′ : List ℕ} (answer : Wrote) → n ≡ success → Writes w h sheet out out′ answer
+    → WriteRest n w h sheet out out′ (wroteMap answer)
+rest-written {w = w} {h = h} {sheet = sheet} {out = out} (Bytes i) z q =
     record {
-      given = inr (λ f. f z, inr (λ f. f k, inr (fits, refl)));
+      given = inr (λ f. f z, inr (fits, refl));
       kept = λ f. absurd (f refl);
       refused = λ f. absurd (f refl);
       done = λ _. record {
@@ -41,9 +39,9 @@ rest-written {w = w} {h = h} {sheet = sheet} {out = out} (Bytes i) z k q =
     fits : ¬ TooShort w h (Marked sheet w h) out
     fits t =
         omega (arith, t .short, q .fits, q .counted, ap length (written-one w h (Marked sheet w h) (λ x y o. marked-dec sheet w h x y) (t .file) (q .file) (t .written) (q .written)))
-rest-written Short z k q =
+rest-written Short z q =
     record {
-      given = inr (λ f. f z, inr (λ f. f k, inl (record { file = q .file; written = q .written; short = q .long }, refl)));
+      given = inr (λ f. f z, inl (record { file = q .file; written = q .written; short = q .long }, refl));
       kept = λ _. q .same;
       refused = λ _. refl;
       done = λ e. absurd (omega arith);

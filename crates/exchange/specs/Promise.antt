@@ -1,7 +1,7 @@
 -- What the parts of the two map-file calls promise that need no list of records. Writing: the map's
--- size is told, and once the rocks are stamped on a sheet of that size, the second part finds 16
--- and 17 or writes. Reading: the first part finds every refusal and has the file's bits; the second
--- part goes from rock to rock.
+-- size is told; once all markers are stamped on a sheet of that size, the second part finds 16; and
+-- once the rocks are, the third finds 17 or writes. Reading: the first part finds every refusal and
+-- has the file's bits; the second part goes from rock to rock.
 use mathlib.Core.Path.{_≡_}
 use mathlib.Core.List.{List, [], _∷_}
 use Prim.Native.Nat.{ℕ, _*_, _<_, _≤_}
@@ -33,19 +33,19 @@ abbrev pub wroteMap : Wrote → WroteMap
 wroteMap (Bytes n) = record { refusal = wroteNumber (Bytes n); bytes = n }
 wroteMap Short = no-bytes (wroteNumber Short)
 
--- What the second part asks: where nothing is refused so far, a map within the limits and a sheet
--- of its size.
+-- The rows of the second part of writing, after a first part that gave n, over a sheet on which
+-- `count` markers are stamped: fewer marks than markers mean that two share a crossing.
+abbrev pub shared-rows : ℕ → ℕ → List ℕ → List Rule
+shared-rows n count sheet = before n ∷ rule shared-crossing (¬ (marks sheet ≡ count)) ∷ []
+
+-- What the third part asks: where nothing is refused so far, a map within the limits and a sheet of
+-- its size.
 abbrev pub MayWrite : ℕ → ℕ → ℕ → List ℕ → Type 0
 MayWrite n w h sheet = n ≡ success → Fits w h sheet
 
--- The rows of the second part of writing, over a sheet on which `count` markers are stamped: fewer
--- marks than markers mean that two share a crossing.
-abbrev pub stamped-rows : ℕ → ℕ → ℕ → List ℕ → List ℕ → List Rule
-stamped-rows count w h sheet out = rule shared-crossing (¬ (marks sheet ≡ count)) ∷ output-rule w h (Marked sheet w h) out ∷ []
-
--- The second part of writing, after a first part that gave n.
-pub record WriteRest (n count w h : ℕ) (sheet out out′ : List ℕ) (r : WroteMap) : Type 0 where
-  pub given : Gives (before n ∷ stamped-rows count w h sheet out) (r .refusal)
+-- The third part of writing, after parts that gave n, over a sheet on which the rocks are stamped.
+pub record WriteRest (n w h : ℕ) (sheet out out′ : List ℕ) (r : WroteMap) : Type 0 where
+  pub given : Gives (before n ∷ output-rule w h (Marked sheet w h) out ∷ []) (r .refusal)
   pub kept : ¬ (r .refusal ≡ 0) → out′ ≡ out
   pub refused : ¬ (r .refusal ≡ 0) → r ≡ no-bytes (r .refusal)
   pub done : r .refusal ≡ 0 → MapWritten w h (Marked sheet w h) out out′ r

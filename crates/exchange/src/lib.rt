@@ -1,10 +1,13 @@
-// The parts of the two map-file calls that need no list of records: writing from a sheet on which
-// the rocks are stamped, and reading into bits, from which each rock's marker is told.
+// The parts of the two map-file calls that need no list of records: writing from sheets on which
+// the markers and the rocks are stamped, and reading into bits, from which each rock's marker is
+// told.
 use calls::ReadMap;
 use calls::WroteMap;
 use field::Marker;
+use field::TALLEST;
 use field::refusals::SHARED_CROSSING;
 use field::refusals::SHORT_OUTPUT;
+use field::refusals::SUCCESS;
 use reader::Reading;
 use writer::Wrote;
 ghost use mathlib.Core.Path.{_≡_};
@@ -13,7 +16,8 @@ ghost use lib.ListN.{length};
 ghost use Rattle.field.specs.Map.{side};
 ghost use Rattle.field.specs.Workings.MarkCount.{marks};
 ghost use Rattle.mapfile.specs.MarkerLaws.{markerAt};
-ghost use Rattle.exchange.specs.Promise.{Area, MayWrite, WriteRest, ReadFirst, RockAhead, NextRock, MayMark};
+ghost use Rattle.calls.specs.Rule.{Gives};
+ghost use Rattle.exchange.specs.Promise.{Area, shared-rows, MayWrite, WriteRest, ReadFirst, RockAhead, NextRock, MayMark};
 
 // How many crossings the map has. A size against the limits, which is refused, counts for none.
 pub fn area(w: usize, h: usize) -> usize
@@ -38,28 +42,29 @@ fn count_marks(sheet: &[u8]) -> usize
     n
 }
 
-// The second part of writing, over a sheet on which `count` markers are stamped. n is the refusal
-// that was found before, or 0.
-pub fn write_stamped(
-    n: u8,
-    count: usize,
-    w: usize,
-    h: usize,
-    sheet: &[u8],
-    out: &mut [u8],
-) -> WroteMap
+// The second part of writing, over a sheet on which `count` markers are stamped, low ones included:
+// 16 where two of them share a crossing, which then has one mark for both. n is the refusal that
+// was found before, or 0.
+pub fn shared(n: u8, count: usize, sheet: &[u8]) -> u8
+    ensures { λ r. ⌜ Gives (shared-rows n count (now (sheet .entry))) r ⌝ }
+{
+    if n != SUCCESS {
+        return n;
+    }
+    if count_marks(sheet) != count {
+        return SHARED_CROSSING;
+    }
+    SUCCESS
+}
+
+// The third part of writing, over a sheet on which the rocks are stamped.
+pub fn write_stamped(n: u8, w: usize, h: usize, sheet: &[u8], out: &mut [u8]) -> WroteMap
     requires { ⌜ MayWrite n w h (now sheet) ⌝ }
-    ensures { λ r. ⌜ WriteRest n count w h (now (sheet .entry)) (now (out .entry)) (now (out .exit)) r ⌝ }
+    ensures { λ r. ⌜ WriteRest n w h (now (sheet .entry)) (now (out .entry)) (now (out .exit)) r ⌝ }
 {
     if n != 0 {
         return WroteMap {
             refusal: n,
-            bytes: 0,
-        };
-    }
-    if count_marks(sheet) != count {
-        return WroteMap {
-            refusal: SHARED_CROSSING,
             bytes: 0,
         };
     }
@@ -109,7 +114,7 @@ pub fn next_rock(bits: &[u8], from: usize) -> usize
 }
 
 // The marker of the rock that stands at this place in raster order, the k-th of the file: ids rise
-// from 1. "The first raster row is the northmost."
+// from 1. "The first raster row is the northmost." "Markers read from a map file get 65,535."
 pub fn marker_of(w: usize, h: usize, place: usize, k: usize) -> Marker
     requires { ⌜ MayMark w h place k ⌝ }
     ensures { λ r. ⌜ r ≡ markerAt w h (k + 1) place ⌝ }
@@ -125,5 +130,6 @@ pub fn marker_of(w: usize, h: usize, place: usize, k: usize) -> Marker
         id: id as u16,
         x: x as u16,
         y: y as u16,
+        height: TALLEST,
     }
 }

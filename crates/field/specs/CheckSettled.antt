@@ -6,6 +6,7 @@ use mathlib.Core.List.{List, [], _∷_}
 use Prim.Native.Nat.{ℕ}
 use lib.Dec.{ltb, eqb}
 use borrow.Author.Tests.{ltb-true, eqb-true}
+use Rattle.field.specs.Map.{tallest}
 use Rattle.field.specs.Checks.{Finds}
 use Rattle.field.specs.CheckTable.{Row, Holds, table}
 use Rattle.field.specs.Table.{wide, high, ClosedBy}
@@ -52,7 +53,7 @@ all-hold [] e = none
 all-hold (r ∷ rs) e = let f = and-split _ _ e in one (passes-holds r (f .0)) (all-hold rs (f .1))
 
 table-passes : all-pass table ≡ true
-unfolding all-pass table passes lit westOf southOf around row rowsFrom sheet closing until sweep next marks stamp rockOf stands rockSheet closedSheet stepTo neighbourOf stepOf checkFrom checkOf
+unfolding all-pass table passes tallest lit westOf southOf around row rowsFrom sheet closing until sweep next marks stamp rockOf stands rockSheet closedSheet stepTo neighbourOf stepOf checkFrom checkOf
 table-passes = refl
 
 -- The rows of request 01.

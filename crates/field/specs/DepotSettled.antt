@@ -6,7 +6,7 @@ use mathlib.Core.List.{List, [], _∷_}
 use lib.Dec.{ltb, eqb}
 use borrow.Author.Tests.{ltb-true, eqb-true}
 use Rattle.field.specs.declared.Placing.{Placing}
-use Rattle.field.specs.Map.{gap, no-distance}
+use Rattle.field.specs.Map.{gap, no-distance, tallest}
 use Rattle.field.specs.Labels.{Closed}
 use Rattle.field.specs.Depots.{depotX, depotY, HowPlaced}
 use Rattle.field.specs.DepotTable.{Row, Holds, table}
@@ -39,7 +39,7 @@ same-numbers p q e =
     placing-same (eqb-true _ _ (g .0)) (eqb-true _ _ (g .1)) (eqb-true _ _ (k .0)) (eqb-true _ _ (k .1))
 
 found : Row → Placing
-found r = placedOf (closing (r .w) (r .h) (stamp (r .w) (r .h) (markersOn (r .rocks)))) (r .w) (r .h) (depotX (r .depot) (r .w)) (depotY (r .depot) (r .h))
+found r = placedOf (closing (r .w) (r .h) (stamp (r .w) (r .h) 0 (markersOn (r .rocks)))) (r .w) (r .h) (depotX (r .depot) (r .w)) (depotY (r .depot) (r .h))
 
 passes : Row → Bool
 passes r =
@@ -50,7 +50,7 @@ unfolding passes found
 passes-holds r e =
     let f = and-split _ _ e in
     let o = and-split _ _ (f .0) in
-    let rocks = stamp-draws (r .w) (r .h) (markersOn (r .rocks)) in
+    let rocks = stamp-draws 0 (r .w) (r .h) (markersOn (r .rocks)) in
     subst (HowPlaced (r .w) (r .h) (Closed (RocksOn (r .rocks)) (r .w) (r .h)) (depotX (r .depot) (r .w)) (depotY (r .depot) (r .h)))
     (same-numbers _ _ (f .1))
     (placed-made (r .w) (r .h) _ _ (closing-draws (r .w) (r .h) (RocksOn (r .rocks)) _ rocks) _ _
@@ -66,7 +66,7 @@ all-hold [] e = none
 all-hold (r ∷ rs) e = let f = and-split _ _ e in one (passes-holds r (f .0)) (all-hold rs (f .1))
 
 table-passes : all-pass table ≡ true
-unfolding all-pass table passes found sameNumbers gap no-distance lit westOf southOf around row rowsFrom sheet closing until sweep next marks stamp rockOf stands litAlong look clearOf enoughOf axisOf openOf assuredOf reachNext reach totalTo placedOf
+unfolding all-pass table passes found sameNumbers gap no-distance tallest lit westOf southOf around row rowsFrom sheet closing until sweep next marks stamp rockOf stands litAlong look clearOf enoughOf axisOf openOf assuredOf reachNext reach totalTo placedOf
 table-passes = refl
 
 -- The rows of request 05.

@@ -13,4 +13,5 @@ pub mod HomeDrives
 pub mod Meeting
 pub mod LinesLaws
 pub mod DepotLaws
+pub mod Clearances
 pub mod Theorems

@@ -8,14 +8,17 @@ use Rattle.field.specs.Map.{On, OnMap, at, Near, Apart}
 
 -- What a slot that is cleared holds: zeros.
 abbrev pub blank : Marker
-blank = record { id = 0; x = 0; y = 0 }
+blank = record { id = 0; x = 0; y = 0; height = 0 }
 
--- "A crossing is a *rock* if at least one marker stands on it." The list holds the markers in use.
-pub record Rock (list : List Marker) (x y : ℕ) : Type 0 where
+-- "A crossing is a *rock* if at least one marker stands on it." "A marker makes its crossing a rock
+-- for that cart exactly if its height is greater than the clearance" (document 02, Req 08): the
+-- rocks are those of a cart with this ground clearance. The list holds the markers in use.
+pub record Rock (clearance : ℕ) (list : List Marker) (x y : ℕ) : Type 0 where
   pub slot : ℕ
   pub in-use : slot < length list
   pub x-is : getD list slot blank .x ≡ x
   pub y-is : getD list slot blank .y ≡ y
+  pub stops : clearance < getD list slot blank .height
 
 -- "Closed crossings are the smallest set that holds all rocks and every crossing with two or more
 -- closed neighbours." R tells the rocks.

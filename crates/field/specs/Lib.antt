@@ -2,7 +2,8 @@
 -- document's words, which a reader must believe. Limits has the numbers that the code's constants
 -- share with them. Workings compute, and each agrees with its meaning; Geometry and Checked have
 -- the theorems that need no code; Table has the settled examples, FurtherTable what they leave
--- open, CheckTable drawn lists, DepotTable depots, and LinesTable crossing lines.
+-- open, CheckTable drawn lists, DepotTable depots, LinesTable crossing lines, and StonesTable
+-- stones of different heights.
 pub mod Map
 pub mod Rule
 pub mod Refusals
@@ -30,3 +31,5 @@ pub mod DepotTable
 pub mod DepotSettled
 pub mod LinesTable
 pub mod LinesSettled
+pub mod StonesTable
+pub mod StonesSettled

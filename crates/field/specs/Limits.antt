@@ -1,13 +1,13 @@
 -- The limits as the code's constants have them. Every proof that needs such a number cites it from
 -- here.
 use mathlib.Core.Path.{_≡_, refl}
-use Prim.Native.Nat.{ℕ, _*_, _≤_}
+use Prim.Native.Nat.{ℕ, _*_, _<_, _≤_}
 use native.Mathlib.Omega.{arith}
 use native.Mathlib.Nat.{mul-le-mul}
-use Rattle.field.specs.Map.{side, most-markers, no-distance, largest-value, old-largest, old-mark, Sides}
+use Rattle.field.specs.Map.{side, most-markers, no-distance, largest-value, old-largest, old-mark, tallest, Sides}
 
 -- The constants' numbers: SIDE, MOST_CROSSINGS, MOST_MARKERS, NO_DISTANCE, LARGEST,
--- OLD_LARGEST, OLD_MARK.
+-- OLD_LARGEST, OLD_MARK, TALLEST.
 abbrev pub side-number : ℕ
 side-number = 256
 
@@ -28,6 +28,9 @@ old-largest-number = 255
 
 abbrev pub old-mark-number : ℕ
 old-mark-number = 255
+
+abbrev pub tallest-number : ℕ
+tallest-number = 65535
 
 pub side-is : side ≡ side-number
 unfolding side
@@ -52,6 +55,14 @@ old-largest-is = refl
 pub old-mark-is : old-mark ≡ old-mark-number
 unfolding old-mark
 old-mark-is = refl
+
+pub tallest-is : tallest ≡ tallest-number
+unfolding tallest
+tallest-is = refl
+
+-- The highest markers stop a cart of no clearance.
+pub tallest-some : 0 < tallest
+tallest-some = omega (arith, tallest-is)
 
 pub most-crossings-is : side * side ≡ crossing-slots
 unfolding side

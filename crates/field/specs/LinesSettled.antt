@@ -6,7 +6,7 @@ use mathlib.Core.List.{List, [], _∷_}
 use Prim.Native.Nat.{ℕ}
 use lib.Dec.{ltb, eqb}
 use borrow.Author.Tests.{eqb-true, not-true}
-use Rattle.field.specs.Map.{gap, no-distance}
+use Rattle.field.specs.Map.{gap, no-distance, tallest}
 use Rattle.field.specs.Drives.{HasDrive, InRegion}
 use Rattle.field.specs.Chooser.{drawn, top}
 use Rattle.field.specs.CrossingLines.{LinesAnswer, says-no, says-yes}
@@ -114,7 +114,7 @@ all-hold [] e = none
 all-hold (r ∷ rs) e = let f = and-split _ _ e in one (passes-holds r (f .0)) (all-hold rs (f .1))
 
 table-passes : all-pass table ≡ true
-unfolding all-pass table passes same-lines as-told has gap no-distance drawn top lit westOf southOf around row rowsFrom sheet closing until sweep next marks stamp rockOf stands every litAlong look clearOf enoughOf axisOf openOf assuredOf hopTo reachNext reach onWay regionOf eastWestIn northSouthIn chosenOf driveOf same rockSheet closedSheet regionSheet everyBetween firstFrom firstBetween columnOf rowOf linesOf drivenByOf
+unfolding all-pass table passes same-lines as-told has gap no-distance tallest drawn top lit westOf southOf around row rowsFrom sheet closing until sweep next marks stamp rockOf stands every litAlong look clearOf enoughOf axisOf openOf assuredOf hopTo reachNext reach onWay regionOf eastWestIn northSouthIn chosenOf driveOf same rockSheet closedSheet regionSheet everyBetween firstFrom firstBetween columnOf rowOf linesOf drivenByOf
 table-passes = refl
 
 -- The rows of request 06.

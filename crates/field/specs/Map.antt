@@ -30,6 +30,12 @@ old-largest = 255
 unfoldable pub old-mark : ℕ
 old-mark = 255
 
+-- "Add to each marker a height in centimetres, 0 to 65,535, and to each asking the cart's ground
+-- clearance." "Markers read from a map file get 65,535" (document 02, Req 08). No height and no
+-- clearance is more.
+unfoldable pub tallest : ℕ
+tallest = 65535
+
 -- "Width and height: 1 to 64 each", with Req 07 to 256.
 pub record Sides (w h : ℕ) : Type 0 where
   pub some-w : 1 ≤ w

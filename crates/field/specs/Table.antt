@@ -9,7 +9,7 @@ use mathlib.Core.Logic.{_↔_}
 use Prim.Native.Nat.{ℕ, suc, _+_}
 use lib.ListN.{length}
 use Rattle.field.specs.declared.Marker.{Marker}
-use Rattle.field.specs.Map.{On}
+use Rattle.field.specs.Map.{On, tallest}
 use Rattle.field.specs.Labels.{Rock, RockOn, Closed, Open, Shut, LabelSheet, Count}
 use Rattle.field.specs.Groups.{Linked, Groups}
 use Rattle.field.specs.Distances.{Way, Clear, Distances, Assured}
@@ -27,21 +27,22 @@ wide = 8
 abbrev pub high : ℕ
 high = 8
 
--- A place on the map, and markers on places, with ids 1, 2, 3 and on.
+-- A place on the map, and markers on places, with ids 1, 2, 3 and on: "document 01's examples mean
+-- height 65,535 and clearance 0" (document 02, Req 08).
 pub record Place : Type 0 where
   pub x : ℕ
   pub y : ℕ
 
 abbrev pub markersFrom : ℕ → List Place → List Marker
 markersFrom k [] = []
-markersFrom k (p ∷ ps) = record { id = k; x = p .x; y = p .y } ∷ markersFrom (suc k) ps
+markersFrom k (p ∷ ps) = record { id = k; x = p .x; y = p .y; height = tallest } ∷ markersFrom (suc k) ps
 
 abbrev pub markersOn : List Place → List Marker
 markersOn ps = markersFrom 1 ps
 
 -- The rocks of a row, and its closed crossings.
 abbrev pub RocksOn : List Place → ℕ → ℕ → Type 0
-RocksOn ps = Rock (markersOn ps)
+RocksOn ps = Rock 0 (markersOn ps)
 
 abbrev pub ClosedBy : List Place → ℕ → ℕ → Type 0
 ClosedBy ps = Closed (RocksOn ps) wide high
@@ -50,7 +51,7 @@ ClosedBy ps = Closed (RocksOn ps) wide high
 -- and 0 elsewhere.
 abbrev pub picture : List Place → List Place → List ℕ
 picture rocks shut =
-    sheet wide high (λ x y. cond (rockOf (markersOn rocks) x y) 1 (cond (rockOf (markersOn shut) x y) 2 0))
+    sheet wide high (λ x y. cond (rockOf 0 (markersOn rocks) x y) 1 (cond (rockOf 0 (markersOn shut) x y) 2 0))
 
 -- Each of the places is shut by the rocks.
 abbrev pub EachShut : List Place → List Place → Type 0

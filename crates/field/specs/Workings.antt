@@ -8,6 +8,7 @@ pub mod Closing
 pub mod Stamping
 pub mod Labelling
 pub mod Counting
+pub mod MarkTally
 pub mod Corners
 pub mod Looking
 pub mod AxisLaws

@@ -24,12 +24,17 @@ pub const OLD_LARGEST: usize = 255;
 
 pub const OLD_MARK: u8 = 255;
 
-// A rock marker: a sixteen-bit id and the crossing on which it stands, laid out for C.
+// "Markers read from a map file get 65,535" (document 02, Req 08)
+pub const TALLEST: u16 = 65535;
+
+// A rock marker: a sixteen-bit id, the crossing on which it stands, and its height in centimetres,
+// laid out for C.
 #[repr(C)]
 pub struct Marker {
     pub id: u16,
     pub x: u16,
     pub y: u16,
+    pub height: u16,
 }
 
 // What the checker finds of a drawn list: why it is refused, and the position of the first crossing

@@ -112,15 +112,16 @@ pub fn bears(m: Marker, id: u16) -> Sought
     Sought::NotInUse
 }
 
-// The marker with this id on (x, y).
-pub fn marker(id: u16, x: usize, y: usize) -> Marker
+// The marker with this id on (x, y), of this height.
+pub fn marker(id: u16, x: usize, y: usize, height: u16) -> Marker
     requires { ⌜ (x < 2 ^ 16) × (y < 2 ^ 16) ⌝ }
-    ensures { λ r. ⌜ r ≡ marker id x y ⌝ }
+    ensures { λ r. ⌜ r ≡ marker id x y height ⌝ }
 {
     Marker {
         id,
         x: x as u16,
         y: y as u16,
+        height,
     }
 }
 

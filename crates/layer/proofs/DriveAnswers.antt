@@ -1,7 +1,7 @@
 -- Region and drive: what the second part tells of a stamped sheet is what the call promises of the
 -- list.
 use mathlib.Core.Path.{_≡_}
-use mathlib.Core.Bool.{Bool, true}
+use mathlib.Core.Bool.{Bool, true, false}
 use mathlib.Core.List.{List, [], _∷_}
 use mathlib.Core.Logic.{_↔_}
 use Prim.Native.Nat.{ℕ}
@@ -20,7 +20,7 @@ use Rattle.layer.specs.Prepared.{Prepared}
 use Rattle.layer.proofs.Tables.{not-no}
 use Rattle.layer.proofs.Joining.{one-tells, none-early, others-good, first-good, second-good, closed-alike, may-label, joined-two}
 
-module _ {m : LentMap} {sx sy dx dy : ℕ} {others : Bool} {labels s : List ℕ} {n : ℕ} (p : Prepared m sx sy dx dy others labels s n) {g : List ℕ}
+module _ {m : LentMap} {sx sy dx dy : ℕ} {others : Bool} {labels s : List ℕ} {n : ℕ} (p : Prepared m false sx sy dx dy others labels s n) {g : List ℕ}
     (told : (others ≡ true) ↔ OneFit (m .width) (m .height) (length g)) where
   pub drive-may : MayDrive n (m .width) (m .height) sx sy dx dy s g
   drive-may =

@@ -80,7 +80,7 @@ pub record Answered (m : LentMap) (sheets : List (List ℕ)) (own : List Rule) (
 pub none-early : {r : ℕ} → r ≡ 0 → ¬ Early r
 none-early z e = omega (arith, e .0)
 
-module _ {m : LentMap} {x y a b : ℕ} {others : Bool} {labels s : List ℕ} {n : ℕ} (p : Prepared m x y a b others labels s n) where
+module _ {m : LentMap} {x y a b : ℕ} {others : Bool} {labels s : List ℕ} {n : ℕ} (p : Prepared m false x y a b others labels s n) where
   -- The first part refuses by 1 to 4.
   refusal-early : ¬ (n ≡ 0) → Early n
   refusal-early f = go (p .given)

@@ -1,7 +1,7 @@
 -- Labelling, distances, assurance, hops, checks and crossing lines: what the second part tells of a
 -- stamped sheet is what the call promises of the list.
 use mathlib.Core.Path.{_≡_, refl}
-use mathlib.Core.Bool.{Bool, true}
+use mathlib.Core.Bool.{Bool, true, false}
 use mathlib.Core.List.{List, [], _∷_}
 use mathlib.Core.Logic.{_↔_, inl, ⊎-elim}
 use Prim.Native.Nat.{ℕ}
@@ -40,7 +40,7 @@ one-place : (m : LentMap) (x y : ℕ) → Sized m → Reworded (Rules.places-rul
 one-place m x y sides = (refl, (⊎-elim (λ f. f) (λ f. f), inl), λ _. tt)
 
 module _ {m : LentMap} {labels s : List ℕ} {n : ℕ} where
-  module _ (p : Prepared m 0 0 0 0 true labels s n) where
+  module _ (p : Prepared m false 0 0 0 0 true labels s n) where
     pub label-may : MayLabel n (m .width) (m .height) s
     label-may = may-label p
 
@@ -54,7 +54,7 @@ module _ {m : LentMap} {labels s : List ℕ} {n : ℕ} where
           done = λ z. numbers-same (m .width) (m .height) (stones-alike p (q .passed (none-early z))) (e .done z);
         }
 
-  module _ {x y : ℕ} (p : Prepared m x y x y true labels s n) where
+  module _ {x y : ℕ} (p : Prepared m false x y x y true labels s n) where
     pub distances-may : MayAsk n (m .width) (m .height) x y s
     distances-may = record { first = may-label p; on = first-good p }
 
@@ -68,7 +68,7 @@ module _ {m : LentMap} {labels s : List ℕ} {n : ℕ} where
           done = λ z. distances-same (m .width) (m .height) (closed-alike p (q .passed (none-early z))) (e .done z);
         }
 
-  module _ {others : Bool} (p : Prepared m 0 0 0 0 others labels s n) (e d f u : List ℕ)
+  module _ {others : Bool} (p : Prepared m false 0 0 0 0 others labels s n) (e d f u : List ℕ)
       (told : (others ≡ true) ↔ FourFit (m .width) (m .height) (length e) (length d) (length f) (length u)) where
     fit : n ≡ 0 → FourFit (m .width) (m .height) (length e) (length d) (length f) (length u)
     fit z = told .0 (not-no others (others-good p z))
@@ -91,7 +91,7 @@ module _ {m : LentMap} {labels s : List ℕ} {n : ℕ} where
           north-after = distances-after-same (m .width) (m .height) alike (k .north-after);
         }
 
-  module _ {hx hy x y : ℕ} (p : Prepared m hx hy x y true labels s n) where
+  module _ {hx hy x y : ℕ} (p : Prepared m false hx hy x y true labels s n) where
     pub ends-may : MayAskTwo n (m .width) (m .height) hx hy x y s
     ends-may = record { first = may-label p; from = first-good p; to = second-good p }
 

@@ -47,8 +47,8 @@ pub counted-typed : {M : Type 1} (𝓤 : URA M) (H : Heap 𝓤) (A : Atoms 𝓤)
     → T (hasTy R′.mir (counted-value n count)) × WT (counted-value n count)
 counted-typed 𝓤 H A W n count is = LL.lawful R.the-type R′.the-laws 𝓤 H A W .typed (counted n count) (counted-value n count ∷ []) is .0
 
-module _ (m : LentMap) (id x y n : ℕ) (g : Gives (Rules.enter-table m id x y) n) where
-  pub enter-refused : ¬ (n ≡ 0) → EnterCall m id x y (m .list) (counted n 0)
+module _ (m : LentMap) (id x y height n : ℕ) (g : Gives (Rules.enter-table m id x y) n) where
+  pub enter-refused : ¬ (n ≡ 0) → EnterCall m id x y height (m .list) (counted n 0)
   enter-refused f = record { given = g; kept = λ _. refl; refused = λ _. refl; done = λ z. absurd (f z) }
 
   module _ (z : n ≡ 0) where
@@ -63,7 +63,7 @@ module _ (m : LentMap) (id x y n : ℕ) (g : Gives (Rules.enter-table m id x y) 
     enter-fits =
         (omega (arith, on .in-x, sides-hold (free .0) .most-w, side-is), omega (arith, on .in-y, sides-hold (free .0) .most-h, side-is))
 
-    pub enter-may : MayEnter (m .list) (m .count) (marker id x y)
+    pub enter-may : MayEnter (m .list) (m .count) (marker id x y height)
     enter-may =
         record {
           rising = rising-of (formed-holds (free .1 .0));
@@ -71,7 +71,7 @@ module _ (m : LentMap) (id x y n : ℕ) (g : Gives (Rules.enter-table m id x y) 
           room = holds (decLt (m .count) (length (m .list))) (λ f. free .1 .1 .1 .1 .0 (inl (omega arith)));
         }
 
-    pub enter-done : {after : List Marker} {r : ℕ} → Enters (m .list) (m .count) (marker id x y) after r → EnterCall m id x y after (counted 0 r)
+    pub enter-done : {after : List Marker} {r : ℕ} → Enters (m .list) (m .count) (marker id x y height) after r → EnterCall m id x y height after (counted 0 r)
     enter-done e =
         record {
           given = subst (Gives (Rules.enter-table m id x y)) z g;

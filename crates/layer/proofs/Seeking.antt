@@ -36,7 +36,7 @@ answered-yes {r = false} e t = absurd t
 pub rising-of : {w h count : ℕ} {list : List Marker} → WellFormed w h list count → Rising list count
 rising-of f = record { lent = f .lent; rising = f .rising }
 
-module _ {m : LentMap} {id : ℕ} (sides : Sized m) (formed : Formed m) {k : ℕ} (place : Place (m .list) (m .count) id k) where
+module _ (m : LentMap) {id : ℕ} (sides : Sized m) (formed : Formed m) {k : ℕ} (place : Place (m .list) (m .count) id k) where
   -- The place is past the last marker: all have lower ids.
   pub found-none : m .count ≤ k → Seeks m id Found.NotInUse
   found-none l = (sides, formed, λ u. omega (arith, place .lower (u .place) (omega (arith, u .below)), u .is))

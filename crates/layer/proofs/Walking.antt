@@ -13,11 +13,11 @@ use Rattle.walks.specs.Prelude.{copy, opdTrue, Body, seq, call, return, Width, 
 use Rattle.walks.specs.Prelude.{Heap, Env, Tables, WpFn, tyOf, spotOf, Atoms, Lfts, Shares, Fun, fact, Running, GhostRules, tables, fmOf, Given, Go, Item, ‵, raw, Post}
 use Rattle.walks.specs.Prelude.{Seq, runs, atRet, use0, _$_, !, Opds, Denots, Valss, flat, mirs, bool-tells, Ises, Are, Typed, valss, u8, sliceVal, typesAt, Clauses}
 use Rattle.walks.specs.Prelude.{Lasts, atExit, closing, Meets, Triple, cited, Known, Blocks, Passed, these, rest, envOf, locals, true-T, keeps, known-at, has, readable}
-use Rattle.walks.specs.Prelude.{values, operands, lands-in, TwoCalls, OneCall, Stmt, coded, after, Sound, straight, pays, called, lent, Promised, Form, lents, count}
+use Rattle.walks.specs.Prelude.{values, operands, lands-in, TwoCalls, OneCall, Stmt, coded, after, Sound, straight, pays, called, lent, Promised, Form, lents, asked-nums, count}
 use Rattle.walks.specs.Prelude.{num-spells, asking, asking-params, answering, answering-params, Answer, answer-val, IsAnswer, Returned, returned, labels-of, labels-room}
 use Rattle.walks.specs.Prelude.{others-of, others-vals, others-are, answer-args, answer-vals, call-lasts, head, tail, trimmed, labels-local, labels-on, all-on, handed-on}
-use Rattle.walks.specs.Prelude.{to-first, answer-local, judging-params, judging, num-makes, sized, from-on, past-on, at}
-use Rattle.walks.specs.Prelude.{number-of, vals, passed, labels-at, labels-token, list-token, list-at, other-tokens, others-at, ending, begins, answered}
+use Rattle.walks.specs.Prelude.{to-first, answer-local, judging-params, judging, num-makes, sized, from-on, past-on}
+use Rattle.walks.specs.Prelude.{vals, passed, labels-at, labels-token, list-token, list-at, other-tokens, others-at, ending, begins, answered}
 use mir.Syntax.{Opd as Operand}
 use types.Kit.{drop}
 use prog.Routine.{Env as RoutineEnv}
@@ -221,7 +221,7 @@ module _ {M : Type 1} (𝓤 : URA M) (H : Heap 𝓤) (A : Atoms 𝓤) (W : Given
         judged-vals κs a = valss (typesAt (judging-params ws) tt) (num-spells ws [] tt tt) (judged κs a)
 
         abbrev sizes : (κs : Lifetimes) → Arguments κs → List Stmt
-        sizes κs a = sized (suc (suc (count (F .lent)))) 2 (suc (labels-local (F .widths))) (suc (suc o)) t (F .lent) κs (others-of T.the-row F κs a)
+        sizes κs a = sized (suc (suc (count (F .lent)))) 2 (suc (labels-local (asked-nums (F .widths)))) (suc (suc o)) t (F .lent) κs (others-of T.the-row F κs a)
 
         abbrev to-judge : List Operand
         to-judge = copy (place 3 []) ∷ copy (place 4 []) ∷ from-on (suc (suc o)) t
@@ -257,7 +257,7 @@ module _ {M : Type 1} (𝓤 : URA M) (H : Heap 𝓤) (A : Atoms 𝓤) (W : Given
           pub labels-lent : (κs : Lifetimes) (qs : Tokens) (a : Arguments κs) (bs : Blocks (trimmed f .locals)) (b : Bool) → length (labels κs a) < 2 ^ 64
               → Sound 𝓤 H (frame bs) (labels-on F κs a p ∷ []) (keeps o (vbool b) (sized-up κs qs a))
           -- The judge asks nothing of its caller, and says what is told.
-          pub are : (κs : Lifetimes) (qs : Tokens) (a : Arguments κs) → number-of (F .widths) _ κs (a .1 .1) (at 0) < 2 ^ 64 → number-of (F .widths) _ κs (a .1 .1) (at 1) < 2 ^ 64 → OthersAre κs qs a
+          pub are : (κs : Lifetimes) (qs : Tokens) (a : Arguments κs) → a .1 .1 .0 < 2 ^ 64 → a .1 .1 .1 .0 < 2 ^ 64 → OthersAre κs qs a
               → Are (typesAt (judging-params ws) tt) (Ises (typesAt (judging-params ws) tt)) (judged κs a) (judged-vals κs a)
           pub ghost : (κs : Lifetimes) (a : Arguments κs) → cⱼ tt (judged κs a) .ghost
           pub may : (κs : Lifetimes) (a : Arguments κs) → ent 𝓤 (emp 𝓤) (cⱼ tt (judged κs a) .requires (ghost κs a))

@@ -1,6 +1,6 @@
--- The first part of every asking: refusals 1 to 4, found before anything is written, and the rocks
--- stamped on the label sheet where there is none. And what is found before a marker is entered or
--- cleared.
+-- The first part of every asking: refusals 1 to 4, found before anything is written, and the cart's
+-- rocks, or with `low` every marker, stamped on the label sheet where there is none. And what is
+-- found before a marker is entered or cleared.
 use mathlib.Core.Path.{_≡_}
 use mathlib.Core.Bool.{Bool, false}
 use mathlib.Core.List.{List, [], _∷_}
@@ -26,10 +26,10 @@ asking-found m x y a b others labels =
     ∷ Rules.places-rule m x y a b
     ∷ []
 
-pub record Prepared (m : LentMap) (x y a b : ℕ) (others : Bool) (labels labels′ : List ℕ) (r : ℕ) : Type 0 where
+pub record Prepared (m : LentMap) (low : Bool) (x y a b : ℕ) (others : Bool) (labels labels′ : List ℕ) (r : ℕ) : Type 0 where
   pub given : Gives (asking-found m x y a b others labels) r
   pub refused : ¬ (r ≡ 0) → labels′ ≡ labels
-  pub stamped : r ≡ 0 → StampedWith (m .width) (m .height) (m .list) (m .count) labels′
+  pub stamped : r ≡ 0 → StampedWith (m .width) (m .height) (m .clearance) low (m .list) (m .count) labels′
 
 -- What is found of the map, the list and an id: an id is in use or not in use where the size is
 -- good and the list is well formed.

@@ -12,22 +12,53 @@ ghost use Rattle.calls.specs.Rules.{lentMap};
 ghost use Rattle.calls.specs.Calls.{ReadCall, WriteCall};
 ghost use Rattle.layer.specs.Files.{MayPut, putIn};
 
-// Writes the list as a map file, P4. Hands back the number of bytes written, or the refusal: 1, 3,
-// 16 or 17. Bytes past the end stay, and a refusal changes none.
+// Writes the list as a map file, P4: the rocks of a cart of this clearance. Hands back how many
+// bytes were written, or the refusal: 1, 3, 16 or 17. Bytes past the end stay, and a refusal
+// changes none. 16 looks at all markers, low ones included: so these are stamped first, and the
+// rocks over them.
 #[no_mangle]
 pub extern "C" fn bodkin_write(
     list: &[Marker],
     count: usize,
     w: usize,
     h: usize,
+    clearance: u16,
     out: &mut [u8],
 ) -> WroteMap
-    ensures { λ r. ⌜ WriteCall (lentMap (now (list .entry)) count w h) (now (out .entry)) (now (out .exit)) r ⌝ }
+    ensures { λ r. ⌜ WriteCall (lentMap (now (list .entry)) count w h clearance) (now (out .entry)) (now (out .exit)) r ⌝ }
 {
     let mut sheet = [0u8; MOST_CROSSINGS];
     let size = exchange::area(w, h);
-    let n = prepare(list, count, w, h, 0, 0, 0, 0, true, &mut sheet[..size]);
-    exchange::write_stamped(n, count, w, h, &sheet[..size], out)
+    let first = prepare(
+        list,
+        count,
+        w,
+        h,
+        clearance,
+        true,
+        0,
+        0,
+        0,
+        0,
+        true,
+        &mut sheet[..size],
+    );
+    let n = exchange::shared(first, count, &sheet[..size]);
+    prepare(
+        list,
+        count,
+        w,
+        h,
+        clearance,
+        false,
+        0,
+        0,
+        0,
+        0,
+        true,
+        &mut sheet[..size],
+    );
+    exchange::write_stamped(n, w, h, &sheet[..size], out)
 }
 
 // The second part of reading: puts the map's markers in the first slots of the list, by its bits in

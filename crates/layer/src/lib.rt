@@ -1,5 +1,6 @@
 // The public calls over the lent list of marker records. No call relies on its caller: each answers
-// by the lowest refusal that applies, or succeeds.
+// by the lowest refusal that applies, or succeeds. `clearance` is the ground clearance of the cart
+// that asks, in centimetres as the markers' heights are.
 pub mod files; // files.rt: the two map-file calls
 mod pictures; // pictures.rt: the two picture calls
 mod preparing; // preparing.rt: the first part of every asking
@@ -17,7 +18,7 @@ use field::Marker;
 use field::refusals::SUCCESS;
 use judging::Sought;
 use preparing::prepare;
-ghost use Rattle.calls.specs.Rules.{lentMap};
+ghost use Rattle.calls.specs.Rules.{lentMap, lentList};
 ghost use Rattle.calls.specs.Calls.{EnterCall, ClearCall, LabelCall, DistancesCall, MeasureCall, AssuredCall, HopCall, RegionCall, DriveCall};
 ghost use Rattle.calls.specs.CheckCall.{CheckCall};
 ghost use Rattle.calls.specs.LinesCall.{LinesCall, LinesDriveCall};
@@ -26,7 +27,7 @@ ghost use Rattle.layer.specs.Prepared.{Seeks};
 // What is found of the map, the list and an id. The id is looked for only where the list is well
 // formed.
 fn seek(list: &[Marker], count: usize, w: usize, h: usize, id: u16) -> Sought
-    ensures { λ r. ⌜ Seeks (lentMap (now (list .entry)) count w h) id r ⌝ }
+    ensures { λ r. ⌜ Seeks (lentList (now (list .entry)) count w h) id r ⌝ }
 {
     let sized = sheets::sized(w, h);
     if !sized {
@@ -43,7 +44,7 @@ fn seek(list: &[Marker], count: usize, w: usize, h: usize, id: u16) -> Sought
     judging::bears(list[k], id)
 }
 
-// Enters a marker. Hands back the new count, or the refusal: 1, 3, 4, 5 or 7.
+// Enters a marker, of any height. Hands back the new count, or the refusal: 1, 3, 4, 5 or 7.
 #[no_mangle]
 pub extern "C" fn bodkin_enter(
     list: &mut [Marker],
@@ -53,8 +54,9 @@ pub extern "C" fn bodkin_enter(
     id: u16,
     x: usize,
     y: usize,
+    height: u16,
 ) -> Counted
-    ensures { λ r. ⌜ EnterCall (lentMap (now (list .entry)) count w h) id x y (now (list .exit)) r ⌝ }
+    ensures { λ r. ⌜ EnterCall (lentList (now (list .entry)) count w h) id x y height (now (list .exit)) r ⌝ }
 {
     let found = seek(list, count, w, h, id);
     let n = judging::enter_refusal(found, w, h, id, x, y, count, list.len());
@@ -64,7 +66,7 @@ pub extern "C" fn bodkin_enter(
             count: 0,
         };
     }
-    let m = judging::marker(id, x, y);
+    let m = judging::marker(id, x, y, height);
     let next = records::enter(list, count, m);
     Counted {
         refusal: SUCCESS,
@@ -81,7 +83,7 @@ pub extern "C" fn bodkin_clear(
     h: usize,
     id: u16,
 ) -> Counted
-    ensures { λ r. ⌜ ClearCall (lentMap (now (list .entry)) count w h) id (now (list .exit)) r ⌝ }
+    ensures { λ r. ⌜ ClearCall (lentList (now (list .entry)) count w h) id (now (list .exit)) r ⌝ }
 {
     let found = seek(list, count, w, h, id);
     let n = judging::clear_refusal(found);
@@ -106,11 +108,25 @@ pub extern "C" fn bodkin_label(
     count: usize,
     w: usize,
     h: usize,
+    clearance: u16,
     labels: &mut [u8],
 ) -> Labelling
-    ensures { λ r. ⌜ LabelCall (lentMap (now (list .entry)) count w h) (now (labels .entry)) (now (labels .exit)) r ⌝ }
+    ensures { λ r. ⌜ LabelCall (lentMap (now (list .entry)) count w h clearance) (now (labels .entry)) (now (labels .exit)) r ⌝ }
 {
-    let n = prepare(list, count, w, h, 0, 0, 0, 0, true, labels);
+    let n = prepare(
+        list,
+        count,
+        w,
+        h,
+        clearance,
+        false,
+        0,
+        0,
+        0,
+        0,
+        true,
+        labels,
+    );
     askings::label(n, w, h, labels)
 }
 
@@ -121,13 +137,27 @@ pub extern "C" fn bodkin_distances(
     count: usize,
     w: usize,
     h: usize,
+    clearance: u16,
     x: usize,
     y: usize,
     labels: &mut [u8],
 ) -> Four
-    ensures { λ r. ⌜ DistancesCall (lentMap (now (list .entry)) count w h) x y (now (labels .entry)) (now (labels .exit)) r ⌝ }
+    ensures { λ r. ⌜ DistancesCall (lentMap (now (list .entry)) count w h clearance) x y (now (labels .entry)) (now (labels .exit)) r ⌝ }
 {
-    let n = prepare(list, count, w, h, x, y, x, y, true, labels);
+    let n = prepare(
+        list,
+        count,
+        w,
+        h,
+        clearance,
+        false,
+        x,
+        y,
+        x,
+        y,
+        true,
+        labels,
+    );
     askings::distances(n, w, h, x, y, labels)
 }
 
@@ -139,16 +169,30 @@ pub extern "C" fn bodkin_measure(
     count: usize,
     w: usize,
     h: usize,
+    clearance: u16,
     labels: &mut [u8],
     east: &mut [u16],
     south: &mut [u16],
     west: &mut [u16],
     north: &mut [u16],
 ) -> u8
-    ensures { λ r. ⌜ MeasureCall (lentMap (now (list .entry)) count w h) (now (labels .entry)) (now (east .entry)) (now (south .entry)) (now (west .entry)) (now (north .entry)) (now (labels .exit)) (now (east .exit)) (now (south .exit)) (now (west .exit)) (now (north .exit)) r ⌝ }
+    ensures { λ r. ⌜ MeasureCall (lentMap (now (list .entry)) count w h clearance) (now (labels .entry)) (now (east .entry)) (now (south .entry)) (now (west .entry)) (now (north .entry)) (now (labels .exit)) (now (east .exit)) (now (south .exit)) (now (west .exit)) (now (north .exit)) r ⌝ }
 {
     let others = judging::four_fit(w, h, east.len(), south.len(), west.len(), north.len());
-    let n = prepare(list, count, w, h, 0, 0, 0, 0, others, labels);
+    let n = prepare(
+        list,
+        count,
+        w,
+        h,
+        clearance,
+        false,
+        0,
+        0,
+        0,
+        0,
+        others,
+        labels,
+    );
     askings::measure(n, w, h, labels, east, south, west, north)
 }
 
@@ -159,15 +203,29 @@ pub extern "C" fn bodkin_assured(
     count: usize,
     w: usize,
     h: usize,
+    clearance: u16,
     hx: usize,
     hy: usize,
     x: usize,
     y: usize,
     labels: &mut [u8],
 ) -> Assurance
-    ensures { λ r. ⌜ AssuredCall (lentMap (now (list .entry)) count w h) hx hy x y (now (labels .entry)) (now (labels .exit)) r ⌝ }
+    ensures { λ r. ⌜ AssuredCall (lentMap (now (list .entry)) count w h clearance) hx hy x y (now (labels .entry)) (now (labels .exit)) r ⌝ }
 {
-    let n = prepare(list, count, w, h, hx, hy, x, y, true, labels);
+    let n = prepare(
+        list,
+        count,
+        w,
+        h,
+        clearance,
+        false,
+        hx,
+        hy,
+        x,
+        y,
+        true,
+        labels,
+    );
     askings::assured(n, w, h, hx, hy, x, y, labels)
 }
 
@@ -179,15 +237,29 @@ pub extern "C" fn bodkin_hop(
     count: usize,
     w: usize,
     h: usize,
+    clearance: u16,
     hx: usize,
     hy: usize,
     x: usize,
     y: usize,
     labels: &mut [u8],
 ) -> Homeward
-    ensures { λ r. ⌜ HopCall (lentMap (now (list .entry)) count w h) hx hy x y (now (labels .entry)) (now (labels .exit)) r ⌝ }
+    ensures { λ r. ⌜ HopCall (lentMap (now (list .entry)) count w h clearance) hx hy x y (now (labels .entry)) (now (labels .exit)) r ⌝ }
 {
-    let n = prepare(list, count, w, h, hx, hy, x, y, true, labels);
+    let n = prepare(
+        list,
+        count,
+        w,
+        h,
+        clearance,
+        false,
+        hx,
+        hy,
+        x,
+        y,
+        true,
+        labels,
+    );
     askings::hop(n, w, h, hx, hy, x, y, labels)
 }
 
@@ -199,6 +271,7 @@ pub extern "C" fn bodkin_region(
     count: usize,
     w: usize,
     h: usize,
+    clearance: u16,
     sx: usize,
     sy: usize,
     dx: usize,
@@ -206,10 +279,23 @@ pub extern "C" fn bodkin_region(
     labels: &mut [u8],
     region: &mut [u8],
 ) -> u8
-    ensures { λ r. ⌜ RegionCall (lentMap (now (list .entry)) count w h) sx sy dx dy (now (labels .entry)) (now (region .entry)) (now (labels .exit)) (now (region .exit)) r ⌝ }
+    ensures { λ r. ⌜ RegionCall (lentMap (now (list .entry)) count w h clearance) sx sy dx dy (now (labels .entry)) (now (region .entry)) (now (labels .exit)) (now (region .exit)) r ⌝ }
 {
     let others = judging::fits(w, h, region.len());
-    let n = prepare(list, count, w, h, sx, sy, dx, dy, others, labels);
+    let n = prepare(
+        list,
+        count,
+        w,
+        h,
+        clearance,
+        false,
+        sx,
+        sy,
+        dx,
+        dy,
+        others,
+        labels,
+    );
     askings::region(n, w, h, sx, sy, dx, dy, labels, region)
 }
 
@@ -221,6 +307,7 @@ pub extern "C" fn bodkin_drive(
     count: usize,
     w: usize,
     h: usize,
+    clearance: u16,
     sx: usize,
     sy: usize,
     dx: usize,
@@ -230,10 +317,23 @@ pub extern "C" fn bodkin_drive(
     route: &mut [u16],
     state: &mut u32,
 ) -> Drove
-    ensures { λ r. ⌜ DriveCall (lentMap (now (list .entry)) count w h) sx sy dx dy (now (labels .entry)) (now (region .entry)) (now (route .entry)) (now (state .entry)) (now (labels .exit)) (now (region .exit)) (now (route .exit)) (now (state .exit)) r ⌝ }
+    ensures { λ r. ⌜ DriveCall (lentMap (now (list .entry)) count w h clearance) sx sy dx dy (now (labels .entry)) (now (region .entry)) (now (route .entry)) (now (state .entry)) (now (labels .exit)) (now (region .exit)) (now (route .exit)) (now (state .exit)) r ⌝ }
 {
     let others = judging::fits(w, h, region.len());
-    let n = prepare(list, count, w, h, sx, sy, dx, dy, others, labels);
+    let n = prepare(
+        list,
+        count,
+        w,
+        h,
+        clearance,
+        false,
+        sx,
+        sy,
+        dx,
+        dy,
+        others,
+        labels,
+    );
     askings::drive(n, w, h, sx, sy, dx, dy, labels, region, route, state)
 }
 
@@ -246,6 +346,7 @@ pub extern "C" fn bodkin_check(
     count: usize,
     w: usize,
     h: usize,
+    clearance: u16,
     sx: usize,
     sy: usize,
     dx: usize,
@@ -253,9 +354,22 @@ pub extern "C" fn bodkin_check(
     labels: &mut [u8],
     drawn: &[u16],
 ) -> Checked
-    ensures { λ r. ⌜ CheckCall (lentMap (now (list .entry)) count w h) sx sy dx dy (now (labels .entry)) (now (drawn .entry)) (now (labels .exit)) r ⌝ }
+    ensures { λ r. ⌜ CheckCall (lentMap (now (list .entry)) count w h clearance) sx sy dx dy (now (labels .entry)) (now (drawn .entry)) (now (labels .exit)) r ⌝ }
 {
-    let n = prepare(list, count, w, h, sx, sy, dx, dy, true, labels);
+    let n = prepare(
+        list,
+        count,
+        w,
+        h,
+        clearance,
+        false,
+        sx,
+        sy,
+        dx,
+        dy,
+        true,
+        labels,
+    );
     askings::check(n, w, h, sx, sy, dx, dy, labels, drawn)
 }
 
@@ -268,15 +382,29 @@ pub extern "C" fn bodkin_lines(
     count: usize,
     w: usize,
     h: usize,
+    clearance: u16,
     sx: usize,
     sy: usize,
     dx: usize,
     dy: usize,
     labels: &mut [u8],
 ) -> CrossingLines
-    ensures { λ r. ⌜ LinesCall (lentMap (now (list .entry)) count w h) sx sy dx dy (now (labels .entry)) (now (labels .exit)) r ⌝ }
+    ensures { λ r. ⌜ LinesCall (lentMap (now (list .entry)) count w h clearance) sx sy dx dy (now (labels .entry)) (now (labels .exit)) r ⌝ }
 {
-    let n = prepare(list, count, w, h, sx, sy, dx, dy, true, labels);
+    let n = prepare(
+        list,
+        count,
+        w,
+        h,
+        clearance,
+        false,
+        sx,
+        sy,
+        dx,
+        dy,
+        true,
+        labels,
+    );
     askings::lines(n, w, h, sx, sy, dx, dy, labels)
 }
 
@@ -289,6 +417,7 @@ pub extern "C" fn bodkin_lines_drive(
     count: usize,
     w: usize,
     h: usize,
+    clearance: u16,
     sx: usize,
     sy: usize,
     dx: usize,
@@ -298,9 +427,22 @@ pub extern "C" fn bodkin_lines_drive(
     route: &mut [u16],
     state: &mut u32,
 ) -> Drove
-    ensures { λ r. ⌜ LinesDriveCall (lentMap (now (list .entry)) count w h) sx sy dx dy (now (labels .entry)) (now (region .entry)) (now (route .entry)) (now (state .entry)) (now (labels .exit)) (now (region .exit)) (now (route .exit)) (now (state .exit)) r ⌝ }
+    ensures { λ r. ⌜ LinesDriveCall (lentMap (now (list .entry)) count w h clearance) sx sy dx dy (now (labels .entry)) (now (region .entry)) (now (route .entry)) (now (state .entry)) (now (labels .exit)) (now (region .exit)) (now (route .exit)) (now (state .exit)) r ⌝ }
 {
     let others = judging::fits(w, h, region.len());
-    let n = prepare(list, count, w, h, sx, sy, dx, dy, others, labels);
+    let n = prepare(
+        list,
+        count,
+        w,
+        h,
+        clearance,
+        false,
+        sx,
+        sy,
+        dx,
+        dy,
+        others,
+        labels,
+    );
     askings::lines_drive(n, w, h, sx, sy, dx, dy, labels, region, route, state)
 }

@@ -6,7 +6,8 @@ ghost use Rattle.calls.specs.Rules.{lentMap};
 ghost use Rattle.layer.specs.Prepared.{Prepared};
 
 // The first part of every asking: the lowest of refusals 1 to 4, and where there is none, 0, and
-// the rocks stamped on the label sheet. `others` tells whether every other lent sheet is of the
+// the rocks of a cart of this clearance stamped on the label sheet; with `low`, every marker, low
+// ones included. `others` tells whether every other lent sheet is of the
 // map's size; (x, y) and (a, b) are the places asked; a call that asks no place names (0, 0) twice,
 // which is on every map.
 pub fn prepare(
@@ -14,6 +15,8 @@ pub fn prepare(
     count: usize,
     w: usize,
     h: usize,
+    clearance: u16,
+    low: bool,
     x: usize,
     y: usize,
     a: usize,
@@ -21,13 +24,13 @@ pub fn prepare(
     others: bool,
     labels: &mut [u8],
 ) -> u8
-    ensures { λ r. ⌜ Prepared (lentMap (now (list .entry)) count w h) x y a b others (now (labels .entry)) (now (labels .exit)) r ⌝ }
+    ensures { λ r. ⌜ Prepared (lentMap (now (list .entry)) count w h clearance) low x y a b others (now (labels .entry)) (now (labels .exit)) r ⌝ }
 {
     let well = records::well_formed(list, count, w, h);
     let n = judging::lowest(w, h, labels.len(), others, well, x, y, a, b);
     if n != SUCCESS {
         return n;
     }
-    records::stamp(list, count, w, h, labels);
+    records::stamp(list, count, w, h, clearance, low, labels);
     SUCCESS
 }

@@ -14,6 +14,7 @@ pub fn drive<'a>(
     count: usize,
     w: usize,
     h: usize,
+    clearance: u16,
     sx: usize,
     sy: usize,
     dx: usize,
@@ -24,10 +25,23 @@ pub fn drive<'a>(
     refusal: &mut u8,
     state: &mut u32,
 ) -> &'a mut [u16]
-    ensures { λ r. ⌜ RouteCall (lentMap (now (list .entry)) count w h) sx sy dx dy (now (labels .entry)) (now (region .entry)) (now (route .entry)) (now (state .entry)) (now (labels .exit)) (now (region .exit)) (now r) (now (refusal .exit)) (now (state .exit)) (route .entry .ptr) (r .ptr) ⌝ }
+    ensures { λ r. ⌜ RouteCall (lentMap (now (list .entry)) count w h clearance) sx sy dx dy (now (labels .entry)) (now (region .entry)) (now (route .entry)) (now (state .entry)) (now (labels .exit)) (now (region .exit)) (now r) (now (refusal .exit)) (now (state .exit)) (route .entry .ptr) (r .ptr) ⌝ }
 {
     let others = judging::fits(w, h, region.len());
-    let n = prepare(list, count, w, h, sx, sy, dx, dy, others, labels);
+    let n = prepare(
+        list,
+        count,
+        w,
+        h,
+        clearance,
+        false,
+        sx,
+        sy,
+        dx,
+        dy,
+        others,
+        labels,
+    );
     askings::route(
         n,
         w,

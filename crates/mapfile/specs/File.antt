@@ -6,7 +6,7 @@ use mathlib.Core.Logic.{_⊎_}
 use Prim.Native.Nat.{ℕ, zero, suc, _+_, _*_, _-_, _/_, _%_, _<_, _≤_}
 use lib.ListN.{length, getD, take, drop}
 use Rattle.field.specs.declared.Marker.{Marker}
-use Rattle.field.specs.Map.{Sides, On, most-markers}
+use Rattle.field.specs.Map.{Sides, On, most-markers, tallest}
 use Rattle.field.specs.Refusals.{bad-size, no-slot, bad-letters, bad-header}
 use Rattle.mapfile.specs.Header.{Header}
 use Rattle.mapfile.specs.Raster.{RawRaster, PlainRaster, RawFault, PlainFault}
@@ -63,11 +63,11 @@ pub record FileRock (w h : ℕ) (bits : List ℕ) (x y : ℕ) : Type 0 where
   pub one : getD bits (rasterPlace w h x y) 0 ≡ 1
 
 -- "Reading makes markers with ids 1, 2, 3 and on, in raster order": from the k-th bit on, the next
--- id being n.
+-- id being n. "Markers read from a map file get 65,535" (document 02, Req 08).
 unfoldable pub markersFrom : ℕ → ℕ → ℕ → ℕ → List ℕ → List Marker
 markersFrom w h n k [] = []
 markersFrom w h n k (zero ∷ bits) = markersFrom w h n (k + 1) bits
-markersFrom w h n k (suc b ∷ bits) = record { id = n; x = k % w; y = h - (k / w + 1) } ∷ markersFrom w h (n + 1) (k + 1) bits
+markersFrom w h n k (suc b ∷ bits) = record { id = n; x = k % w; y = h - (k / w + 1); height = tallest } ∷ markersFrom w h (n + 1) (k + 1) bits
 
 unfoldable pub markersOf : ℕ → ℕ → List ℕ → List Marker
 markersOf w h bits = markersFrom w h 1 0 bits

@@ -7,6 +7,7 @@ use Prim.Native.Nat.{ℕ, zero, suc, _+_, _-_, _/_, _%_, _<_, _≤_}
 use native.Mathlib.Omega.{arith}
 use lib.ListN.{length, getD}
 use Rattle.field.specs.declared.Marker.{Marker}
+use Rattle.field.specs.Map.{tallest}
 use Rattle.field.specs.Labels.{blank}
 use Rattle.mapfile.specs.File.{markersFrom}
 
@@ -34,9 +35,9 @@ unfolding ones
 ones-snoc bits zero l = ones-append bits (0 ∷ [])
 ones-snoc bits (suc b) l = ones-append bits (suc b ∷ []) ∙ omega arith
 
--- The marker with this id on the crossing of the k-th bit.
+-- The marker with this id on the crossing of the k-th bit, as high as any.
 abbrev pub markerAt : ℕ → ℕ → ℕ → ℕ → Marker
-markerAt w h id k = record { id = id; x = k % w; y = h - (k / w + 1) }
+markerAt w h id k = record { id = id; x = k % w; y = h - (k / w + 1); height = tallest }
 
 module _ (w h : ℕ) where
   -- There is a marker for each bit that is not 0.

@@ -10,7 +10,7 @@ use native.Mathlib.Decide.{decLt}
 use lib.Arith.{digits-div, digits-mod}
 use lib.ListN.{length, getD, List·getD-eq-default}
 use Rattle.field.specs.declared.Marker.{Marker}
-use Rattle.field.specs.Map.{Sides, On}
+use Rattle.field.specs.Map.{Sides, On, tallest}
 use Rattle.field.specs.Labels.{Rock, blank}
 use Rattle.field.specs.Workings.Sheet.{number-lt, Crossing, crossing}
 use Rattle.mapfile.specs.Raster.{packedBit, RawRaster, Digits, ended, skip, zero-digit, one-digit}
@@ -103,6 +103,10 @@ module _ {w h : ℕ} (bits : List ℕ) (sides : Sides w h) (long : length bits �
   pub marker-id : (i : ℕ) → i < length (markersOf w h bits) → getD (markersOf w h bits) i blank .id ≡ i + 1
   marker-id i l = ap (λ (m : Marker). m .id) (the-marker i l .3)
 
+  -- All as high as any.
+  pub marker-tall : (i : ℕ) → i < length (markersOf w h bits) → getD (markersOf w h bits) i blank .height ≡ tallest
+  marker-tall i l = ap (λ (m : Marker). m .height) (the-marker i l .3)
+
   -- All on the map.
   pub marker-on : (i : ℕ) → i < length (markersOf w h bits)
       → On w h (getD (markersOf w h bits) i blank .x) (getD (markersOf w h bits) i blank .y)
@@ -128,8 +132,8 @@ module _ {w h : ℕ} (bits : List ℕ) (sides : Sides w h) (long : length bits �
       y-of t k e = ap (λ (n : Marker). n .y) e ∙ ap (λ (c : ℕ). h - (c / w + 1)) (omega arith)
 
   -- On the file's rocks, and on every one.
-  rock-file : AreBits bits → (x y : ℕ) → Rock (markersOf w h bits) x y → FileRock w h bits x y
-  rock-file are x y r = found (the-marker (r .slot) (r .in-use))
+  rock-file : AreBits bits → (clearance x y : ℕ) → Rock clearance (markersOf w h bits) x y → FileRock w h bits x y
+  rock-file are clearance x y r = found (the-marker (r .slot) (r .in-use))
     where
       found : TheMarker (r .slot) → FileRock w h bits x y
       found m =
@@ -144,9 +148,9 @@ module _ {w h : ℕ} (bits : List ℕ) (sides : Sides w h) (long : length bits �
           one-of : {a : ℕ} → a ≤ 1 → 1 ≤ a → a ≡ 1
           one-of p q = omega arith
 
-  file-rock : (x y : ℕ) → FileRock w h bits x y → Rock (markersOf w h bits) x y
+  file-rock : (clearance x y : ℕ) → clearance < tallest → FileRock w h bits x y → Rock clearance (markersOf w h bits) x y
   unfolding markersOf
-  file-rock x y f =
+  file-rock clearance x y low f =
       let m = of-marker w h 1 0 bits (rasterPlace w h x y) (omega (arith, place-below sides x y (f .on))) (omega (arith, f .one)) in
       let is : getD (markersOf w h bits) (m .slot) blank ≡ markerAt w h (1 + m .slot) (rasterPlace w h x y) = m .is ∙ ap (markerAt w h (1 + m .slot)) (omega arith) in
       record {
@@ -154,12 +158,15 @@ module _ {w h : ℕ} (bits : List ℕ) (sides : Sides w h) (long : length bits �
         in-use = omega (arith, m .below, markers-count);
         x-is = ap (λ (n : Marker). n .x) is ∙ place-x sides x y (f .on);
         y-is = ap (λ (n : Marker). n .y) is ∙ place-y sides x y (f .on);
+        stops = omega (arith, ap (λ (n : Marker). n .height) is);
       }
 
-  pub markers-rocks : AreBits bits → (x y : ℕ) → Rock (markersOf w h bits) x y ↔ FileRock w h bits x y
-  markers-rocks are x y = (rock-file are x y, file-rock x y)
+  pub markers-rocks : AreBits bits → (clearance x y : ℕ) → clearance < tallest → Rock clearance (markersOf w h bits) x y ↔ FileRock w h bits x y
+  markers-rocks are clearance x y low = (rock-file are clearance x y, file-rock clearance x y low)
 
--- The markers read from a map file stand exactly on the file's rocks.
-pub markers-of : {file bits : List ℕ} {w h : ℕ} → MapFile file w h bits → (x y : ℕ) → Rock (markersOf w h bits) x y ↔ FileRock w h bits x y
-markers-of {file} {bits} {w} {h} m x y =
-    markers-rocks bits (m .sides) (raster-crossings (m .format) w h (m .body) bits (m .raster)) (raster-bits (m .format) w h (m .body) bits (m .raster)) x y
+-- The markers read from a map file stand exactly on the file's rocks, and stop every cart but one
+-- whose clearance is as high as any marker.
+pub markers-of : {file bits : List ℕ} {w h : ℕ} → MapFile file w h bits → (clearance x y : ℕ) → clearance < tallest
+    → Rock clearance (markersOf w h bits) x y ↔ FileRock w h bits x y
+markers-of {file} {bits} {w} {h} m =
+    markers-rocks bits (m .sides) (raster-crossings (m .format) w h (m .body) bits (m .raster)) (raster-bits (m .format) w h (m .body) bits (m .raster))

@@ -13,6 +13,7 @@ use native.Mathlib.Decide.{decLt}
 use borrow.Author.Tests.{ltb-true, leb-true, eqb-true, eqb-false, not-true}
 use Rattle.field.specs.declared.Marker.{Marker}
 use Rattle.field.specs.Map.{On}
+use Rattle.field.specs.Limits.{tallest-some}
 use Rattle.field.specs.Labels.{Rock}
 use Rattle.field.specs.Table.{Place, markersOn, RocksOn}
 use Rattle.field.specs.Workings.Tests.{bit, and-split, or-case, only, test-dec}
@@ -56,7 +57,7 @@ unfoldable pub alike : List Marker → List Marker → Bool
 alike [] [] = true
 alike [] (m ∷ ms) = false
 alike (n ∷ ns) [] = false
-alike (n ∷ ns) (m ∷ ms) = ((eqb (n .id) (m .id) && eqb (n .x) (m .x)) && eqb (n .y) (m .y)) && alike ns ms
+alike (n ∷ ns) (m ∷ ms) = ((eqb (n .id) (m .id) && eqb (n .x) (m .x)) && (eqb (n .y) (m .y) && eqb (n .height) (m .height))) && alike ns ms
 
 alike-is : (s t : List Marker) → alike s t ≡ true → s ≡ t
 unfolding alike
@@ -67,10 +68,12 @@ alike-is (n ∷ ns) (m ∷ ms) e =
     let f = and-split _ _ e in
     let g = and-split _ _ (f .0) in
     let h = and-split _ _ (g .0) in
+    let k = and-split _ _ (g .1) in
     let p : n .id ≡ m .id = eqb-true _ _ (h .0) in
     let q : n .x ≡ m .x = eqb-true _ _ (h .1) in
-    let r : n .y ≡ m .y = eqb-true _ _ (g .1) in
-    let first : n ≡ m = λ i. record { id = p i; x = q i; y = r i } in
+    let r : n .y ≡ m .y = eqb-true _ _ (k .0) in
+    let t : n .height ≡ m .height = eqb-true _ _ (k .1) in
+    let first : n ≡ m = λ i. record { id = p i; x = q i; y = r i; height = t i } in
     let later : ns ≡ ms = alike-is ns ms (f .1) in
     cc
 
@@ -104,7 +107,7 @@ plain-of v l e =
 
 -- The bytes are the packed rows of these rocks.
 unfoldable pub crossingOf : ℕ → ℕ → List Place → List ℕ → ℕ → ℕ → Bool
-crossingOf w h rocks l r x = eqb (packedBit w l r x) (bit (rockOf (markersOn rocks) x (h - (r + 1))))
+crossingOf w h rocks l r x = eqb (packedBit w l r x) (bit (rockOf 0 (markersOn rocks) x (h - (r + 1))))
 
 unfoldable pub padOf : ℕ → List ℕ → ℕ → ℕ → Bool
 padOf w l r x = ltb x w || eqb (packedBit w l r x) 0
@@ -126,7 +129,7 @@ packedOf w h rocks l =
     && (every h (λ r. every w (crossingOf w h rocks l r)) && every h (λ r. every (rowBytes w * 8) (padOf w l r)))
 
 module _ (w h : ℕ) (rocks : List Place) (l : List ℕ) where
-  crossing-of : (r x : ℕ) → crossingOf w h rocks l r x ≡ true → packedBit w l r x ≡ bit (rockOf (markersOn rocks) x (h - (r + 1)))
+  crossing-of : (r x : ℕ) → crossingOf w h rocks l r x ≡ true → packedBit w l r x ≡ bit (rockOf 0 (markersOn rocks) x (h - (r + 1)))
   unfolding crossingOf
   crossing-of r x e = eqb-true _ _ e
 
@@ -148,13 +151,13 @@ module _ (w h : ℕ) (rocks : List Place) (l : List ℕ) where
       let f = and-split _ _ e in
       let g = and-split _ _ (f .0) in
       let k = and-split _ _ (f .1) in
-      let at : (r x : ℕ) → r < h → x < w → packedBit w l r x ≡ bit (rockOf (markersOn rocks) x (h - (r + 1))) =
+      let at : (r x : ℕ) → r < h → x < w → packedBit w l r x ≡ bit (rockOf 0 (markersOn rocks) x (h - (r + 1))) =
       λ r x p q. crossing-of r x (every-two h w (crossingOf w h rocks l) (k .0) x r q p) in
       record {
         size = eqb-true _ _ (g .0);
         bytes = byte-of l (g .1);
-        rock = λ r x p q m. told-bit _ (at r x p q) (of-rock (markersOn rocks) x (h - (r + 1)) m);
-        free = λ r x p q m. untold-bit _ (at r x p q) (λ t. m (rock-of (markersOn rocks) x (h - (r + 1)) t));
+        rock = λ r x p q m. told-bit _ (at r x p q) (of-rock 0 (markersOn rocks) x (h - (r + 1)) m);
+        free = λ r x p q m. untold-bit _ (at r x p q) (λ t. m (rock-of 0 (markersOn rocks) x (h - (r + 1)) t));
         pad = λ r x p q m. pad-of r x q (every-two h (rowBytes w * 8) (padOf w l) (k .1) x r m p);
       }
 
@@ -193,7 +196,7 @@ written-of w h rocks file e =
     }
 
 rocks-told : (w h : ℕ) (rocks : List Place) → Tellable w h (RocksOn rocks)
-rocks-told w h rocks x y o = test-dec (rockOf (markersOn rocks) x y) (of-rock (markersOn rocks) x y, rock-of (markersOn rocks) x y)
+rocks-told w h rocks x y o = test-dec (rockOf 0 (markersOn rocks) x y) (of-rock 0 (markersOn rocks) x y, rock-of 0 (markersOn rocks) x y)
 
 -- The tests.
 unfoldable pub passes : Row → Bool
@@ -207,7 +210,7 @@ passes-holds (is-map file w h bits rocks) e =
     let f = and-split _ _ e in
     let m = found-map file w h bits (fileFound file) (file-told file) (f .0) in
     let s : markersOf w h bits ≡ markersOn rocks = alike-is _ _ (f .1) in
-    (m, s, λ x y. let t = subst (λ (l : List Marker). Rock l x y ↔ FileRock w h bits x y) s (markers-of m x y) in (t .1, t .0))
+    (m, s, λ x y. let t = subst (λ (l : List Marker). Rock 0 l x y ↔ FileRock w h bits x y) s (markers-of m 0 x y tallest-some) in (t .1, t .0))
 passes-holds (has-fault file n) e = found-fault file n (fileFound file) (file-told file) e
 passes-holds (is-written w h rocks file) e =
     only (Written w h (RocksOn rocks)) file (written-of w h rocks file e) (written-one w h (RocksOn rocks) (rocks-told w h rocks))

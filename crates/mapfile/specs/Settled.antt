@@ -4,7 +4,7 @@ use mathlib.Core.Path.{_≡_, refl}
 use mathlib.Core.Bool.{Bool, true, _&&_}
 use mathlib.Core.List.{List, [], _∷_}
 use native.Mathlib.Decide.{decLe, decLt, ℕ-discrete}
-use Rattle.field.specs.Map.{side}
+use Rattle.field.specs.Map.{side, tallest}
 use Rattle.field.specs.Workings.Tests.{and-split}
 use Rattle.field.specs.Workings.Sheet.{row, rowsFrom, sheet}
 use Rattle.field.specs.Workings.Stamping.{rockOf, stands}
@@ -35,7 +35,7 @@ all-hold [] e = none
 all-hold (r ∷ rs) e = let f = and-split _ _ e in one (passes-holds r (f .0)) (all-hold rs (f .1))
 
 table-passes : all-pass table ≡ true
-unfolding all-pass table decLe decLt ℕ-discrete side row rowsFrom sheet rockOf stands every same valueFrom most-digits blankDec lineEndDec digitDec pick endItems afterItems afterComment endNumber numberFrom numberAfter nextNumber lastBlank lastly onto andThen headingOf rowBytes packedBit rawBits digitsOf plainVerdict markersFrom markersOf sidesDec plainFound rawFound rasterFound sizedFound headedFound afterTwo rawLettersFound lettersFound fileFound foundMap foundFault alike digitOf plainOf crossingOf padOf byteOf packedOf digitsIn widthIn heightIn rowsIn writtenOf passes
+unfolding all-pass table decLe decLt ℕ-discrete side tallest row rowsFrom sheet rockOf stands every same valueFrom most-digits blankDec lineEndDec digitDec pick endItems afterItems afterComment endNumber numberFrom numberAfter nextNumber lastBlank lastly onto andThen headingOf rowBytes packedBit rawBits digitsOf plainVerdict markersFrom markersOf sidesDec plainFound rawFound rasterFound sizedFound headedFound afterTwo rawLettersFound lettersFound fileFound foundMap foundFault alike digitOf plainOf crossingOf padOf byteOf packedOf digitsIn widthIn heightIn rowsIn writtenOf passes
 table-passes = refl
 
 -- The small files.

@@ -4,10 +4,10 @@
 use mathlib.Core.Path.{_≡_, refl, sym, _∙_}
 use mathlib.Core.Logic.{_↔_}
 use mathlib.Core.List.{List, [], _∷_, _++_, append-assoc}
-use Prim.Native.Nat.{ℕ, _+_, _*_, _-_}
+use Prim.Native.Nat.{ℕ, _+_, _*_, _-_, _<_}
 use native.Mathlib.Omega.{arith}
 use lib.ListN.{getD}
-use Rattle.field.specs.Map.{Sides, On}
+use Rattle.field.specs.Map.{Sides, On, tallest}
 use Rattle.field.specs.Labels.{Rock}
 use Rattle.field.specs.Workings.Sheet.{sheet, sheet-length, sheet-at}
 use Rattle.mapfile.specs.Header.{Blank, feed, space, no-items, blank-item, Separator, Number, Numbers, last-blank, next-number}
@@ -97,11 +97,11 @@ written-map w h R told file sides p = (
     split a b c = simp append-assoc
 
 -- A file is read as this map: the width and height are those that were written, and the markers
--- that reading makes stand exactly on its rocks.
+-- that reading makes stand exactly on its rocks, for every cart but the highest.
 pub record ReadBack (w h : ℕ) (R : ℕ → ℕ → Type 0) (width height : ℕ) (bits : List ℕ) : Type 0 where
   pub width-is : width ≡ w
   pub height-is : height ≡ h
-  pub rocks : (x y : ℕ) → Rock (markersOf width height bits) x y ↔ (On w h x y × R x y)
+  pub rocks : (clearance x y : ℕ) → clearance < tallest → Rock clearance (markersOf width height bits) x y ↔ (On w h x y × R x y)
 
 -- "Reading a written map ... gives the same crossings": by the grammar a file is one map at most,
 -- and what is written is that of the rocks.
@@ -110,8 +110,8 @@ pub read-written : (w h : ℕ) (R : ℕ → ℕ → Type 0) → Tellable w h R �
 read-written w h R told file sides p width height bits m =
     let k = written-map w h R told file sides p in
     let e = map-file-one m (k .1) in
-    record { width-is = e .0; height-is = e .1; rocks = λ x y. rw (e .0, e .1, e .2) (there x y (k .1) (k .2)) }
+    record { width-is = e .0; height-is = e .1; rocks = λ c x y low. rw (e .0, e .1, e .2) (there c x y low (k .1) (k .2)) }
   where
-    there : {own : List ℕ} (x y : ℕ) → MapFile file w h own → ((x y : ℕ) → (FileRock w h own x y ↔ (On w h x y × R x y)))
-        → Rock (markersOf w h own) x y ↔ (On w h x y × R x y)
-    there x y n f = (λ r. f x y .0 (markers-of n x y .0 r), λ t. markers-of n x y .1 (f x y .1 t))
+    there : {own : List ℕ} (c x y : ℕ) → c < tallest → MapFile file w h own → ((x y : ℕ) → (FileRock w h own x y ↔ (On w h x y × R x y)))
+        → Rock c (markersOf w h own) x y ↔ (On w h x y × R x y)
+    there c x y low n f = (λ r. f x y .0 (markers-of n c x y low .0 r), λ t. markers-of n c x y low .1 (f x y .1 t))

@@ -14,8 +14,9 @@ slot list k = getD list k blank
 -- "A marker is a record of a sixteen-bit id (1 to 65,535) and a crossing. The caller lends a list
 -- of marker records with a count of those in use. Ids in use rise strictly. At most 4,096 are in
 -- use." "Raise ... markers in use to 8,192" (Req 07). Refusal 3 is given exactly where this fails:
--- "count over 4,096 or over the list lent, an id 0, ids not rising, or a marker off the map", and
--- "1, 3 and 7 read the new limits" (Req 07). Slots past the count are not looked at.
+-- "count over 4,096 or over the list lent, an id 0, ids not rising, or a marker off the map",
+-- high or low, and "1, 3 and 7 read the new limits" (Req 07). Slots past the count are not looked
+-- at.
 pub record WellFormed (w h : ℕ) (list : List Marker) (count : ℕ) : Type 0 where
   pub few : count ≤ most-markers
   pub lent : count ≤ length list
@@ -57,11 +58,12 @@ pub record Cleared (list : List Marker) (count id : ℕ) (after : List Marker) :
 abbrev pub inUse : List Marker → ℕ → List Marker
 inUse list count = take count list
 
--- Two markers are one and the same: equal ids, on one crossing.
+-- Two markers are one and the same: equal ids, on one crossing, of one height.
 pub record Same (m n : Marker) : Type 0 where
   pub id : m .id ≡ n .id
   pub x : m .x ≡ n .x
   pub y : m .y ≡ n .y
+  pub height : m .height ≡ n .height
 
 -- How often a marker stands in a list.
 pub data Times (m : Marker) : List Marker → ℕ → Type 0 where

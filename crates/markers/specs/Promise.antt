@@ -8,8 +8,8 @@ use Rattle.field.specs.declared.Marker.{Marker}
 use Rattle.markers.specs.List.{slot, Entered, Cleared}
 
 -- A marker of its parts.
-abbrev pub marker : ℕ → ℕ → ℕ → Marker
-marker i x y = record { id = i; x = x; y = y }
+abbrev pub marker : ℕ → ℕ → ℕ → ℕ → Marker
+marker i x y height = record { id = i; x = x; y = y; height = height }
 
 -- The ids in use rise, within the list.
 pub record Rising (list : List Marker) (count : ℕ) : Type 0 where

@@ -31,17 +31,19 @@ one-every (suc n) f p = and-both _ _ (p n (omega arith)) (one-every n f (λ k l.
 
 -- Two markers are the same.
 unfoldable pub alike : Marker → Marker → Bool
-alike m n = (eqb (m .id) (n .id) && eqb (m .x) (n .x)) && eqb (m .y) (n .y)
+alike m n = (eqb (m .id) (n .id) && eqb (m .x) (n .x)) && (eqb (m .y) (n .y) && eqb (m .height) (n .height))
 
 alike-is : (m n : Marker) → alike m n ≡ true → m ≡ n
 unfolding alike
 alike-is m n e =
     let f = and-split _ _ e in
     let g = and-split _ _ (f .0) in
+    let h = and-split _ _ (f .1) in
     let p : m .id ≡ n .id = eqb-true _ _ (g .0) in
     let q : m .x ≡ n .x = eqb-true _ _ (g .1) in
-    let r : m .y ≡ n .y = eqb-true _ _ (f .1) in
-    λ i. record { id = p i; x = q i; y = r i }
+    let r : m .y ≡ n .y = eqb-true _ _ (h .0) in
+    let t : m .height ≡ n .height = eqb-true _ _ (h .1) in
+    λ i. record { id = p i; x = q i; y = r i; height = t i }
 
 -- A marker's id is not 0 and it stands on the map; its id is below the next one's.
 unfoldable pub goodAt : List Marker → ℕ → Bool
@@ -186,7 +188,7 @@ module _ (list : List Marker) (count : ℕ) (after : List Marker) where
 
 -- As many as the limit may be in use: ids 1, 2, 3 and on, all on one crossing.
 crowd : ℕ → List Marker
-crowd n = slots n (λ k. marker (k + 1) 0 0)
+crowd n = slots n (λ k. marker (k + 1) 0 0 0)
 
 crowd-formed : (n : ℕ) → n ≤ most-markers → WellFormed wide high (crowd n) n
 unfolding crowd
@@ -203,7 +205,7 @@ crowd-formed n l =
     }
   where
     from : ℕ → Marker
-    from k = marker (k + 1) 0 0
+    from k = marker (k + 1) 0 0 0
 
 -- The tests.
 unfoldable pub passes : Row → Bool

@@ -39,16 +39,16 @@ Holds (most n) =
 -- Markers that the rows are about. The junk stands past the count: it would not be well formed
 -- there, and no row looks at it.
 abbrev pub m₁ : Marker
-m₁ = marker 1 0 0
+m₁ = marker 1 0 0 90
 
 abbrev pub m₃ : Marker
-m₃ = marker 3 2 5
+m₃ = marker 3 2 5 30
 
 abbrev pub m₅ : Marker
-m₅ = marker 5 7 7
+m₅ = marker 5 7 7 0
 
 abbrev pub junk : Marker
-junk = marker 2 99 8
+junk = marker 2 99 8 70
 
 -- The table. Each row has above it the sentence, or what of it, that it shows.
 unfoldable pub table : List Row
@@ -62,10 +62,17 @@ table =
     -- into the last slot that is lent
     ∷ enters (m₁ ∷ m₅ ∷ junk ∷ []) 2 m₃ (m₁ ∷ m₃ ∷ m₅ ∷ [])
     -- "a sixteen-bit id (1 to 65,535)"
-    ∷ enters (m₃ ∷ junk ∷ []) 1 (marker 65535 0 7) (m₃ ∷ marker 65535 0 7 ∷ [])
+    ∷ enters (m₃ ∷ junk ∷ []) 1 (marker 65535 0 7 8) (m₃ ∷ marker 65535 0 7 8 ∷ [])
     -- "Several markers may stand on one crossing; each is kept."
-    ∷ enters (m₃ ∷ m₅ ∷ junk ∷ []) 2 (marker 4 2 5) (m₃ ∷ marker 4 2 5 ∷ m₅ ∷ [])
-    ∷ clears (m₃ ∷ marker 4 2 5 ∷ m₅ ∷ []) 3 3 (marker 4 2 5 ∷ m₅ ∷ blank ∷ [])
+    ∷ enters (m₃ ∷ m₅ ∷ junk ∷ []) 2 (marker 4 2 5 30) (m₃ ∷ marker 4 2 5 30 ∷ m₅ ∷ [])
+    ∷ clears (m₃ ∷ marker 4 2 5 30 ∷ m₅ ∷ []) 3 3 (marker 4 2 5 30 ∷ m₅ ∷ blank ∷ [])
+    -- "Add to each marker a height in centimetres, 0 to 65,535" (document 02, Req 08): every height
+    -- is entered, the lowest and the highest, and each marker keeps its own where it is moved up or
+    -- down, two of different heights on one crossing too. The slot freed is zeros, its height too.
+    ∷ enters (m₃ ∷ m₅ ∷ junk ∷ []) 2 (marker 2 2 5 0) (marker 2 2 5 0 ∷ m₃ ∷ m₅ ∷ [])
+    ∷ enters (m₃ ∷ m₅ ∷ junk ∷ []) 2 (marker 2 2 5 65535) (marker 2 2 5 65535 ∷ m₃ ∷ m₅ ∷ [])
+    ∷ clears (marker 2 2 5 65535 ∷ m₃ ∷ m₅ ∷ []) 3 2 (m₃ ∷ m₅ ∷ blank ∷ [])
+    ∷ clears (m₁ ∷ marker 7 7 7 65535 ∷ []) 2 7 (m₁ ∷ marker 0 0 0 0 ∷ [])
     -- "Clearing moves the later ones down and sets the one slot so freed to zeros": the first, one
     -- between two, the last, the only one.
     ∷ clears (m₁ ∷ m₃ ∷ m₅ ∷ junk ∷ []) 3 1 (m₃ ∷ m₅ ∷ blank ∷ junk ∷ [])
@@ -81,9 +88,12 @@ table =
     -- the map"; "markers in use to 8,192" (Req 07).
     ∷ most 8192
     ∷ not-formed (m₁ ∷ m₃ ∷ []) 3
-    ∷ not-formed (marker 0 0 0 ∷ []) 1
+    ∷ not-formed (marker 0 0 0 90 ∷ []) 1
     ∷ not-formed (m₁ ∷ m₅ ∷ m₃ ∷ []) 3
-    ∷ not-formed (m₃ ∷ marker 3 0 0 ∷ []) 2
-    ∷ not-formed (m₁ ∷ marker 3 8 5 ∷ []) 2
-    ∷ not-formed (m₁ ∷ marker 3 2 8 ∷ []) 2
+    ∷ not-formed (m₃ ∷ marker 3 0 0 90 ∷ []) 2
+    ∷ not-formed (m₁ ∷ marker 3 8 5 90 ∷ []) 2
+    ∷ not-formed (m₁ ∷ marker 3 2 8 90 ∷ []) 2
+    -- And where the only fault is in a marker of no height.
+    ∷ not-formed (m₃ ∷ marker 3 0 0 0 ∷ []) 2
+    ∷ not-formed (m₁ ∷ marker 3 8 5 0 ∷ []) 2
     ∷ []

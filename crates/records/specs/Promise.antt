@@ -1,5 +1,6 @@
 -- Promises over a lent list of marker records with its count, in the words of the list's meanings.
 use mathlib.Core.Path.{_≡_}
+use mathlib.Core.Bool.{Bool, true, false}
 use mathlib.Core.List.{List}
 use Prim.Native.Nat.{ℕ, _*_, _<_, _≤_}
 use lib.ListN.{length, getD}
@@ -8,6 +9,7 @@ use Rattle.field.specs.Map.{Sides}
 use Rattle.field.specs.Labels.{Rock, RockOn}
 use Rattle.field.specs.Workings.Sheet.{Draws}
 use Rattle.markers.specs.List.{slot, WellFormed, InUse, inUse}
+use Rattle.markers.specs.Laws.Rocks.{Stands, Any}
 use Rattle.markers.specs.Promise.{Rising}
 pub use Rattle.markers.specs.Promise.{Enters, Clears}
 
@@ -34,9 +36,14 @@ pub record MayStamp (w h : ℕ) (list : List Marker) (count : ℕ) (sheet : List
   pub formed : WellFormed w h list count
   pub size : length sheet ≡ h * w
 
--- The sheet stamped: 1 on each crossing with a marker in use, however many stand on it, and 0
--- elsewhere.
-pub record StampedWith (w h : ℕ) (list : List Marker) (count : ℕ) (sheet : List ℕ) : Type 0 where
+-- Which crossings are stamped: where low ones are included, those with a marker in use; and else
+-- the rocks of a cart of this clearance.
+abbrev pub Stamps : ℕ → Bool → List Marker → ℕ → ℕ → ℕ → Type 0
+Stamps clearance true list count = Stands Any list count
+Stamps clearance false list count = Rock clearance (inUse list count)
+
+-- The sheet stamped: 1 on each of them, however many markers stand on it, and 0 elsewhere.
+pub record StampedWith (w h clearance : ℕ) (low : Bool) (list : List Marker) (count : ℕ) (sheet : List ℕ) : Type 0 where
   pub size : length sheet ≡ h * w
   pub ones : (i : ℕ) → getD sheet i 0 ≤ 1
-  pub rocks : Draws w h (RockOn (Rock (inUse list count)) w h) sheet
+  pub rocks : Draws w h (RockOn (Stamps clearance low list count) w h) sheet

@@ -6,12 +6,12 @@ ghost use mathlib.Core.Path.{_≡_};
 ghost use mathlib.Core.Bool.{true};
 ghost use mathlib.Core.Logic.{_↔_};
 ghost use Prim.Native.Nat.{_<_};
-ghost use lib.ListN.{length, set};
+ghost use lib.ListN.{length};
 ghost use Rattle.field.specs.Map.{number};
 ghost use Rattle.markers.specs.List.{WellFormed};
 ghost use Rattle.markers.specs.Promise.{Rising};
 ghost use Rattle.records.specs.Promise.{Place, MayEnter, MayClear, Enters, Clears, MayStamp, StampedWith};
-ghost use Rattle.records.specs.Steps.{Few, Follows};
+ghost use Rattle.records.specs.Steps.{Few, Follows, Counts, Marks};
 
 // Whether a count is within its limits, for a list lent of this length.
 fn few(count: usize, lent: usize) -> bool
@@ -100,7 +100,12 @@ pub fn clear(list: &mut [Marker], count: usize, id: u16) -> usize
     requires { ⌜ MayClear (now list) count id ⌝ }
     ensures { λ r. ⌜ Clears (now (list .entry)) count id (now (list .exit)) r ⌝ }
 {
-    let mut above = Marker { id: 0, x: 0, y: 0 };
+    let mut above = Marker {
+        id: 0,
+        x: 0,
+        y: 0,
+        height: 0,
+    };
     let mut k = count - 1;
     loop {
         let m = list[k];
@@ -113,23 +118,45 @@ pub fn clear(list: &mut [Marker], count: usize, id: u16) -> usize
     }
 }
 
-// Puts a rock on the marker's crossing.
-fn mark(sheet: &mut [u8], m: Marker, w: usize)
-    requires { ⌜ number w (m .x) (m .y) < length (now sheet) ⌝ }
-    ensures { λ _. ⌜ now (sheet .exit) ≡ set (now (sheet .entry)) (number w (m .x) (m .y)) 1 ⌝ }
+// Whether a marker is stamped: it is higher than the clearance, or low ones are included.
+fn counts(m: Marker, clearance: u16, low: bool) -> bool
+    ensures { λ r. ⌜ ((r ≡ true) ↔ Counts clearance low m) ⌝ }
 {
-    sheet[(m.y as usize) * w + (m.x as usize)] = 1;
+    if low {
+        return true;
+    }
+    clearance < m.height
 }
 
-// Stamps the rocks: 1 on each crossing with at least one marker, 0 elsewhere.
-pub fn stamp(list: &[Marker], count: usize, w: usize, h: usize, sheet: &mut [u8])
+// Puts a rock on the marker's crossing where the marker is stamped. Where it is not, the crossing
+// keeps what it has: another marker may have made it a rock.
+fn mark(sheet: &mut [u8], m: Marker, w: usize, clearance: u16, low: bool)
+    requires { ⌜ number w (m .x) (m .y) < length (now sheet) ⌝ }
+    ensures { λ _. ⌜ Marks clearance low m w (now (sheet .entry)) (now (sheet .exit)) ⌝ }
+{
+    if counts(m, clearance, low) {
+        sheet[(m.y as usize) * w + (m.x as usize)] = 1;
+    }
+}
+
+// Stamps the rocks of a cart of this clearance: 1 on each crossing with at least one marker that is
+// higher, 0 elsewhere. With `low`, low ones are included: 1 on each crossing with a marker.
+pub fn stamp(
+    list: &[Marker],
+    count: usize,
+    w: usize,
+    h: usize,
+    clearance: u16,
+    low: bool,
+    sheet: &mut [u8],
+)
     requires { ⌜ MayStamp w h (now list) count (now sheet) ⌝ }
-    ensures { λ _. ⌜ StampedWith w h (now (list .entry)) count (now (sheet .exit)) ⌝ }
+    ensures { λ _. ⌜ StampedWith w h clearance low (now (list .entry)) count (now (sheet .exit)) ⌝ }
 {
     sheets::wipe(sheet);
     let mut k: usize = 0;
     while k < count {
-        mark(sheet, list[k], w);
+        mark(sheet, list[k], w, clearance, low);
         k += 1;
     }
 }

@@ -3,6 +3,7 @@
 // here and the whole buffer is printed, on success and at refusals; what is printed is held to the
 // file `stdout`.
 use field::Marker;
+use field::TALLEST;
 ghost use mathlib.Core.List.{[], _∷_};
 ghost use Prim.Native.Nat.{_≤_};
 ghost use Rattle.calls.specs.Rules.{lentMap};
@@ -13,8 +14,9 @@ const SLOTS: usize = 8;
 
 const OLD: u16 = 0xabcd;
 
-// The drive on a map with one rock. The list is a local array, and only this function lends it: one
-// that lends markers is walked by hand. The part of the route is handed on.
+// The drive on a map with one rock, for a cart of no clearance. The list is a local array, and only
+// this function lends it: one that lends markers is walked by hand. The part of the route is handed
+// on.
 fn drive<'a>(
     rock: Marker,
     w: usize,
@@ -29,7 +31,7 @@ fn drive<'a>(
     refusal: &mut u8,
     state: &mut u32,
 ) -> &'a mut [u16]
-    ensures { λ r. ⌜ RouteCall (lentMap (rock ∷ []) 1 w h) sx sy dx dy (now (labels .entry)) (now (region .entry)) (now (route .entry)) (now (state .entry)) (now (labels .exit)) (now (region .exit)) (now r) (now (refusal .exit)) (now (state .exit)) (route .entry .ptr) (r .ptr) ⌝ }
+    ensures { λ r. ⌜ RouteCall (lentMap (rock ∷ []) 1 w h 0) sx sy dx dy (now (labels .entry)) (now (region .entry)) (now (route .entry)) (now (state .entry)) (now (labels .exit)) (now (region .exit)) (now r) (now (refusal .exit)) (now (state .exit)) (route .entry .ptr) (r .ptr) ⌝ }
 {
     let list = [rock];
     layer::route::drive(
@@ -37,6 +39,7 @@ fn drive<'a>(
         1,
         w,
         h,
+        0,
         sx,
         sy,
         dx,
@@ -78,7 +81,12 @@ fn ask(dx: usize, dy: usize, lent: usize)
     let mut route = [OLD; SLOTS];
     let mut refusal: u8 = 99;
     let mut state: u32 = 0;
-    let rock = Marker { id: 1, x: 2, y: 0 };
+    let rock = Marker {
+        id: 1,
+        x: 2,
+        y: 0,
+        height: TALLEST,
+    };
     let part = drive(
         rock,
         4,

@@ -27,7 +27,7 @@ use denote.Triple.Clauses.{Lasts, lasts}
 use denote.Triple.End.{Kepts, Fins, lastsOf}
 use mir.Syntax.{named}
 use Rattle.walks.specs.Lending.{mutOwn, lastly}
-use Rattle.walks.specs.Forms.{Lent, sheet, cell, shown, spent, Result, value, part, Form, count, lftOf, typeOf, lents, nums, lent-kepts, num-kepts, resultOf, result-val, in-asking, in-answering, sheets-of, sheets-on, asking-params, answering-params, asking, answering, num-spells, asking-spells}
+use Rattle.walks.specs.Forms.{Lent, sheet, cell, shown, spent, Result, value, part, Form, count, lftOf, typeOf, lents, nums, asked-nums, told-nums, lent-kepts, num-kepts, resultOf, result-val, in-asking, in-answering, sheets-of, sheets-on, asking-params, answering-params, asking, answering, num-spells, asking-spells}
 
 -- ---- the numbers: what comes after them, and other things put after them
 abbrev pub past-nums : {n : ℕ} (ws : List Width) (ss : List (Slot n)) (κs : Lfts n) → Denots (typesAt (nums ws ss) κs) → Denots (typesAt ss κs)
@@ -42,6 +42,18 @@ abbrev pub past-are : {n : ℕ} (ws : List Width) (ss : List (Slot n)) (κs : Lf
     → Are (typesAt (nums ws ss) κs) (Ises (typesAt (nums ws ss) κs)) a vs → Are (typesAt ss κs) (Ises (typesAt ss κs)) (past-nums ws ss κs a) (past-vals ws ss κs vs)
 past-are [] ss κs a vs are = are
 past-are (w ∷ ws) ss κs a vs are = past-are ws ss κs (a .1) (vs .1) (are .1)
+
+-- The numbers but the clearance.
+abbrev told : {n : ℕ} (ws : List Width) (ss : List (Slot n)) (κs : Lfts n) → Denots (typesAt (nums (asked-nums ws) ss) κs) → Denots (typesAt (nums (told-nums ws) ss) κs)
+told ws ss κs a = (a .0, (a .1 .0, a .1 .1 .1))
+
+abbrev told-vals : {n : ℕ} (ws : List Width) (ss : List (Slot n)) (κs : Lfts n) → Valss (typesAt (nums (asked-nums ws) ss) κs) → Valss (typesAt (nums (told-nums ws) ss) κs)
+told-vals ws ss κs vs = (vs .0, (vs .1 .0, vs .1 .1 .1))
+
+abbrev told-are : {n : ℕ} (ws : List Width) (ss : List (Slot n)) (κs : Lfts n) (a : Denots (typesAt (nums (asked-nums ws) ss) κs)) (vs : Valss (typesAt (nums (asked-nums ws) ss) κs))
+    → Are (typesAt (nums (asked-nums ws) ss) κs) (Ises (typesAt (nums (asked-nums ws) ss) κs)) a vs
+    → Are (typesAt (nums (told-nums ws) ss) κs) (Ises (typesAt (nums (told-nums ws) ss) κs)) (told ws ss κs a) (told-vals ws ss κs vs)
+told-are ws ss κs a vs are = (are .0, (are .1 .0, are .1 .1 .1))
 
 module _ {n m : ℕ} (ss : List (Slot n)) (κs : Lfts n) (ss′ : List (Slot m)) (κs′ : Lfts m) where
   abbrev pub refill : (ws : List Width) → Denots (typesAt (nums ws ss) κs) → Denots (typesAt ss′ κs′) → Denots (typesAt (nums ws ss′) κs′)
@@ -170,33 +182,33 @@ module _ (R : RattleType) (F : Form) (κs : Lfts (suc (suc (count (F .lent))))) 
   module _ (a : Denots (typesAt (asking-params R F) κs)) where
     -- The label sheet, and the other things lent.
     abbrev pub labels-of : RefT (List ℕ)
-    labels-of = past-nums (F .widths) (sheets-of F) κs (a .1 .1) .0
+    labels-of = past-nums (asked-nums (F .widths)) (sheets-of F) κs (a .1 .1) .0
 
     abbrev pub others-of : Denots (typesAt (lents (suc (suc (count (F .lent)))) 2 (F .lent)) κs)
-    others-of = past-nums (F .widths) (sheets-of F) κs (a .1 .1) .1
+    others-of = past-nums (asked-nums (F .widths)) (sheets-of F) κs (a .1 .1) .1
 
     abbrev sheet-and-others : List ℕ → Denots (typesAt (sheets-on F) (κs .1))
     sheet-and-others s = (record { ptr = labels-of .ptr; name = labels-of .name; now = s }, over (suc (count (F .lent))) 1 (F .lent) κs others-of)
 
     -- What is handed to the part that answers: the number n, and s on the label sheet.
     abbrev pub answer-args : ℕ → List ℕ → Denots (typesAt (answering-params F) (κs .1))
-    answer-args n s = (n, refill (sheets-of F) κs (sheets-on F) (κs .1) (F .widths) (a .1 .1) (sheet-and-others s))
+    answer-args n s = (n, refill (sheets-of F) κs (sheets-on F) (κs .1) (told-nums (F .widths)) (told (F .widths) (sheets-of F) κs (a .1 .1)) (sheet-and-others s))
 
     -- What the call says at its exit, by what that part says.
     abbrev pub call-lasts : (n : ℕ) (s : List ℕ) → Lasts (answering F) (κs .1) (answer-args n s) → Lasts (asking R F) κs a
     call-lasts n s fs =
-        let gs = strip (sheets-of F) κs (sheets-on F) (κs .1) kept-on (F .widths) (a .1 .1) (sheet-and-others s) (fs .1) in
-        (tt, (tt, wrap (F .widths) (sheets-of F) κs kept-of (a .1 .1) (gs .0, under (suc (count (F .lent))) 1 (F .lent) κs others-of (gs .1))))
+        let gs = strip (sheets-of F) κs (sheets-on F) (κs .1) kept-on (told-nums (F .widths)) (told (F .widths) (sheets-of F) κs (a .1 .1)) (sheet-and-others s) (fs .1) in
+        (tt, (tt, wrap (asked-nums (F .widths)) (sheets-of F) κs kept-of (a .1 .1) (gs .0, under (suc (count (F .lent))) 1 (F .lent) κs others-of (gs .1))))
 
     module _ (vs : Valss (typesAt (asking-params R F) κs)) where
       abbrev pub labels-vals : List Val
-      labels-vals = past-vals (F .widths) (sheets-of F) κs (vs .1 .1) .0
+      labels-vals = past-vals (asked-nums (F .widths)) (sheets-of F) κs (vs .1 .1) .0
 
       abbrev pub others-vals : Valss (typesAt (lents (suc (suc (count (F .lent)))) 2 (F .lent)) κs)
-      others-vals = past-vals (F .widths) (sheets-of F) κs (vs .1 .1) .1
+      others-vals = past-vals (asked-nums (F .widths)) (sheets-of F) κs (vs .1 .1) .1
 
       abbrev pub answer-vals : ℕ → Valss (typesAt (answering-params F) (κs .1))
-      answer-vals n = (vint w8 n ∷ [], refill-vals (sheets-of F) κs (sheets-on F) (κs .1) (F .widths) (vs .1 .1) (labels-vals, over-vals (suc (count (F .lent))) 1 (F .lent) κs others-vals))
+      answer-vals n = (vint w8 n ∷ [], refill-vals (sheets-of F) κs (sheets-on F) (κs .1) (told-nums (F .widths)) (told-vals (F .widths) (sheets-of F) κs (vs .1 .1)) (labels-vals, over-vals (suc (count (F .lent))) 1 (F .lent) κs others-vals))
 
       module _ {M : Type 1} (𝓤 : URA M) (H : Heap 𝓤) (A : Atoms 𝓤) (W : Given 𝓤 H A) where
         abbrev pub others-own : Fml
@@ -211,19 +223,20 @@ module _ (R : RattleType) (F : Form) (κs : Lfts (suc (suc (count (F .lent))))) 
         -- What a call owns at its entry: the list, the label sheet, and the other things lent.
         pub call-owns : ent 𝓤 (sem 𝓤 H A (owns (typesAt (asking-params R F) κs) a vs)) (sep 𝓤 (sem 𝓤 H A list-own) (sep 𝓤 (sem 𝓤 H A (labels-own (labels-of .now))) (sem 𝓤 H A others-own)))
         call-owns =
-            monoR 𝓤 (sem 𝓤 H A list-own) (via 𝓤 _ (snd∗ 𝓤 (sem 𝓤 H A (usize .own (a .1 .0) (vs .1 .0))) (sem 𝓤 H A (owns (typesAt (nums (F .widths) (sheets-of F)) κs) (a .1 .1) (vs .1 .1))))
-            (drops-nums 𝓤 H A W (F .widths) (sheets-of F) κs (a .1 .1) (vs .1 .1)))
+            monoR 𝓤 (sem 𝓤 H A list-own) (via 𝓤 _ (snd∗ 𝓤 (sem 𝓤 H A (usize .own (a .1 .0) (vs .1 .0))) (sem 𝓤 H A (owns (typesAt (nums (asked-nums (F .widths)) (sheets-of F)) κs) (a .1 .1) (vs .1 .1))))
+            (drops-nums 𝓤 H A W (asked-nums (F .widths)) (sheets-of F) κs (a .1 .1) (vs .1 .1)))
 
         -- It is handed on.
         pub answer-owns : Are (typesAt (asking-params R F) κs) (Ises (typesAt (asking-params R F) κs)) a vs → (n : ℕ) (s : List ℕ) → n < 2 ^ 8
             → ent 𝓤 (sep 𝓤 (sem 𝓤 H A (labels-own s)) (sem 𝓤 H A others-own)) (sem 𝓤 H A (owns (typesAt (answering-params F) (κs .1)) (answer-args n s) (answer-vals n)))
         answer-owns are n s fits =
             via 𝓤 _ (monoR 𝓤 (sem 𝓤 H A (labels-own s)) (hands-over 𝓤 H A W (suc (count (F .lent))) 1 (F .lent) κs others-of others-vals))
-            (via 𝓤 _ (adds-nums 𝓤 H A W (sheets-of F) κs (sheets-on F) (κs .1) (F .widths) (a .1 .1) (vs .1 .1) (are .1 .1) _ _)
+            (via 𝓤 _ (adds-nums 𝓤 H A W (sheets-of F) κs (sheets-on F) (κs .1) (told-nums (F .widths)) (told (F .widths) (sheets-of F) κs (a .1 .1)) (told-vals (F .widths) (sheets-of F) κs (vs .1 .1))
+            (told-are (F .widths) (sheets-of F) κs (a .1 .1) (vs .1 .1) (are .1 .1)) _ _)
             (via 𝓤 _ (emp∗ 𝓤 after-n) (monoL 𝓤 after-n (uint-makes 𝓤 H A W w8 n (vint w8 n ∷ []) (refl, fits)))))
           where
             after-n : SProp 𝓤
-            after-n = sem 𝓤 H A (owns (typesAt (nums (F .widths) (sheets-on F)) (κs .1)) (answer-args n s .1) (answer-vals n .1))
+            after-n = sem 𝓤 H A (owns (typesAt (nums (told-nums (F .widths)) (sheets-on F)) (κs .1)) (answer-args n s .1) (answer-vals n .1))
 
         retold : (γ : GName) (before between after : List ℕ) → length between ≡ length before → ent 𝓤 (sem 𝓤 H A (lastly u8 γ between after)) (sem 𝓤 H A (lastly u8 γ before after))
         retold γ before between after e =
@@ -235,11 +248,11 @@ module _ (R : RattleType) (F : Form) (κs : Lfts (suc (suc (count (F .lent))))) 
             (sem 𝓤 H A (lasts (asking R F) κs a (call-lasts n s fs)))
         call-says n s e fs =
             let b = sheet-and-others s in
-            let gs = strip (sheets-of F) κs (sheets-on F) (κs .1) kept-on (F .widths) (a .1 .1) b (fs .1) in
+            let gs = strip (sheets-of F) κs (sheets-on F) (κs .1) kept-on (told-nums (F .widths)) (told (F .widths) (sheets-of F) κs (a .1 .1)) b (fs .1) in
             via 𝓤 _ (snd∗ 𝓤 (emp 𝓤) _)
-            (via 𝓤 _ (strips 𝓤 H A W (sheets-of F) κs (sheets-on F) (κs .1) kept-on (F .widths) (a .1 .1) b (fs .1))
+            (via 𝓤 _ (strips 𝓤 H A W (sheets-of F) κs (sheets-on F) (κs .1) kept-on (told-nums (F .widths)) (told (F .widths) (sheets-of F) κs (a .1 .1)) b (fs .1))
             (via 𝓤 _ (mono∗ 𝓤 (retold (labels-of .name) (labels-of .now) s (gs .0) e) (unders 𝓤 H A W (suc (count (F .lent))) 1 (F .lent) κs others-of (gs .1)))
-            (via 𝓤 _ (wraps 𝓤 H A W (F .widths) (sheets-of F) κs kept-of (a .1 .1) (gs .0, under (suc (count (F .lent))) 1 (F .lent) κs others-of (gs .1)))
+            (via 𝓤 _ (wraps 𝓤 H A W (asked-nums (F .widths)) (sheets-of F) κs kept-of (a .1 .1) (gs .0, under (suc (count (F .lent))) 1 (F .lent) κs others-of (gs .1)))
             (via 𝓤 _ (emp∗ 𝓤 _) (emp∗ 𝓤 _)))))
 
 spelled-past : {n : ℕ} (ws : List Width) (ss : List (Slot n)) (κs : Lfts n) (sp : Spells (typesAt ss κs)) (a : Denots (typesAt (nums ws ss) κs))
@@ -251,11 +264,11 @@ module _ (R : RattleType) (F : Form) (κs : Lfts (suc (suc (count (F .lent))))) 
   -- The label sheet's machine value, and the things known of the arguments: the label sheet has
   -- room, and so have the others.
   pub labels-spelled : labels-vals R F κs a (valss (typesAt (asking-params R F) κs) (asking-spells R F κs) a) ≡ slice-vals (labels-of R F κs a)
-  labels-spelled = ap (λ (vs : Valss (typesAt (sheets-of F) κs)). vs .0) (spelled-past (F .widths) (sheets-of F) κs _ (a .1 .1))
+  labels-spelled = ap (λ (vs : Valss (typesAt (sheets-of F) κs)). vs .0) (spelled-past (asked-nums (F .widths)) (sheets-of F) κs _ (a .1 .1))
 
   pub labels-room : (vs : Valss (typesAt (asking-params R F) κs)) → Are (typesAt (asking-params R F) κs) (Ises (typesAt (asking-params R F) κs)) a vs → length (labels-of R F κs a .now) < 2 ^ 64
-  labels-room vs are = past-are (F .widths) (sheets-of F) κs (a .1 .1) (vs .1 .1) (are .1 .1) .0 .0 .1 .0
+  labels-room vs are = past-are (asked-nums (F .widths)) (sheets-of F) κs (a .1 .1) (vs .1 .1) (are .1 .1) .0 .0 .1 .0
 
   abbrev pub others-are : (vs : Valss (typesAt (asking-params R F) κs)) → Are (typesAt (asking-params R F) κs) (Ises (typesAt (asking-params R F) κs)) a vs
       → Are (typesAt (lents (suc (suc (count (F .lent)))) 2 (F .lent)) κs) (Ises (typesAt (lents (suc (suc (count (F .lent)))) 2 (F .lent)) κs)) (others-of R F κs a) (others-vals R F κs a vs)
-  others-are vs are = past-are (F .widths) (sheets-of F) κs (a .1 .1) (vs .1 .1) (are .1 .1) .1
+  others-are vs are = past-are (asked-nums (F .widths)) (sheets-of F) κs (a .1 .1) (vs .1 .1) (are .1 .1) .1

@@ -53,7 +53,7 @@ pub use contract.Lifetimes.{Lfts, Shares}
 pub use denote.Signature.{typesAt}
 pub use Rattle.walks.specs.Places.{true-T, keeps, known-at, has, readable, values, operands, lands-in}
 pub use Rattle.walks.specs.Straight.{TwoCalls, OneCall, Stmt, coded, after, Sound, straight}
-pub use Rattle.walks.specs.Forms.{Form, lents, count, num-spells, asking, asking-params, answering, answering-params, sheet, cell, shown, spent, value, part}
+pub use Rattle.walks.specs.Forms.{Form, lents, asked-nums, count, num-spells, asking, asking-params, answering, answering-params, sheet, cell, shown, spent, value, part}
 pub use Rattle.walks.specs.Passing.{Answer, answer-val, IsAnswer, Returned, returned, labels-of, labels-room, others-of, others-vals, others-are, answer-args, answer-vals, call-lasts}
 pub use Rattle.walks.specs.Coding.{head, tail, trimmed, labels-local, labels-on, all-on, handed-on, to-first, answer-local, judging-params, judging, num-makes, sized, from-on, past-on, Number, at, wide, all-wide, first-wide, small-of, number-of, number-named, beside, nought}
 pub use Rattle.walks.specs.Asks.{vals, passed, labels-at, labels-token, list-token, list-at, other-tokens, others-at, ending, begins, answered}

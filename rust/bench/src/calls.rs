@@ -62,11 +62,18 @@ impl Call {
 
     /// The maps over which the call is measured: sparse, dense, and those that are worst for it.
     /// The questions of which an end may be closed are asked over `blocks` too, where much is
-    /// closed and a drive is left.
+    /// closed and a drive is left. What is asked for a cart is asked over `stones` too.
     pub fn maps(self) -> &'static [&'static str] {
         match self {
             Call::Label => &crate::maps::NAMES,
-            Call::Measure => &["empty", "sparse", "dense", "diagonal", "lattice-2"],
+            Call::Measure => &[
+                "empty",
+                "sparse",
+                "dense",
+                "stones",
+                "diagonal",
+                "lattice-2",
+            ],
             Call::Distances
             | Call::Assured
             | Call::Hop
@@ -74,7 +81,8 @@ impl Call {
             | Call::Drive
             | Call::Check
             | Call::Lines
-            | Call::LinesDrive => &["empty", "sparse", "dense", "blocks", "lattice-2"],
+            | Call::LinesDrive => &["empty", "sparse", "dense", "stones", "blocks", "lattice-2"],
+            Call::Write => &["sparse", "dense", "stones", "full"],
             Call::ReadSheet | Call::ReadOldSheet | Call::WriteSheet => &["sparse"],
             _ => &["sparse", "dense", "full"],
         }
@@ -134,8 +142,8 @@ fn again<A>(times: usize, mut call: impl FnMut() -> A) -> A {
 #[inline(never)]
 pub fn stack_again(input: &Input, room: &mut Room, times: usize) -> Answer {
     let (list, n) = (black_box(&input.list[..]), input.list.len());
-    let (w, h) = black_box((input.side, input.side));
-    let label = || Stack::label(list, n, w, h, &mut room.labels);
+    let (w, h, c) = black_box((input.side, input.side, input.clearance));
+    let label = || Stack::label(list, n, w, h, c, &mut room.labels);
     Answer::Labelling(again(times, label))
 }
 
@@ -143,11 +151,11 @@ pub fn stack_again(input: &Input, room: &mut Room, times: usize) -> Answer {
 #[inline(never)]
 pub fn look_again(input: &Input, room: &mut Room, times: usize) -> Answer {
     let (list, n) = (black_box(&input.list[..]), input.list.len());
-    let (w, h) = black_box((input.side, input.side));
+    let (w, h, c) = black_box((input.side, input.side, input.clearance));
     let labels = &mut room.labels;
     let (east, south) = (&mut room.east, &mut room.south);
     let (west, north) = (&mut room.west, &mut room.north);
-    let measure = || Looking::measure(list, n, w, h, labels, east, south, west, north);
+    let measure = || Looking::measure(list, n, w, h, c, labels, east, south, west, north);
     Answer::Refusal(again(times, measure))
 }
 
@@ -156,7 +164,7 @@ pub fn look_again(input: &Input, room: &mut Room, times: usize) -> Answer {
 #[inline(never)]
 pub fn repeat<L: Layer>(call: Call, input: &Input, room: &mut Room, times: usize) -> Answer {
     let (list, n) = (black_box(&input.list[..]), input.list.len());
-    let (w, h) = black_box((input.side, input.side));
+    let (w, h, c) = black_box((input.side, input.side, input.clearance));
     match call {
         Call::Enter => enter_again::<L>(input, room, times),
         Call::Clear => clear_again::<L>(input, room, times),
@@ -169,7 +177,7 @@ pub fn repeat<L: Layer>(call: Call, input: &Input, room: &mut Room, times: usize
             Answer::ReadMap(again(times, read))
         }
         Call::Write => {
-            let write = || L::write(list, n, w, h, &mut room.out);
+            let write = || L::write(list, n, w, h, c, &mut room.out);
             Answer::WroteMap(again(times, write))
         }
         Call::Check => check_again::<L>(input, room, times),
@@ -194,46 +202,46 @@ pub fn repeat<L: Layer>(call: Call, input: &Input, room: &mut Room, times: usize
 /// Labels, distances, assurance or hop.
 fn ask_again<L: Layer>(call: Call, input: &Input, room: &mut Room, times: usize) -> Answer {
     let (list, n) = (black_box(&input.list[..]), input.list.len());
-    let (w, h) = black_box((input.side, input.side));
+    let (w, h, c) = black_box((input.side, input.side, input.clearance));
     let ((hx, hy), (x, y)) = black_box((input.home, input.place));
     let labels = &mut room.labels;
     match call {
         Call::Measure => {
             let (east, south) = (&mut room.east, &mut room.south);
             let (west, north) = (&mut room.west, &mut room.north);
-            let measure = || L::measure(list, n, w, h, labels, east, south, west, north);
+            let measure = || L::measure(list, n, w, h, c, labels, east, south, west, north);
             Answer::Refusal(again(times, measure))
         }
         Call::Distances => {
-            let distances = || L::distances(list, n, w, h, hx, hy, labels);
+            let distances = || L::distances(list, n, w, h, c, hx, hy, labels);
             Answer::Four(again(times, distances))
         }
         Call::Assured => {
-            let assured = || L::assured(list, n, w, h, hx, hy, x, y, labels);
+            let assured = || L::assured(list, n, w, h, c, hx, hy, x, y, labels);
             Answer::Assurance(again(times, assured))
         }
         Call::Hop => {
-            let hop = || L::hop(list, n, w, h, hx, hy, x, y, labels);
+            let hop = || L::hop(list, n, w, h, c, hx, hy, x, y, labels);
             Answer::Homeward(again(times, hop))
         }
-        _ => Answer::Labelling(again(times, || L::label(list, n, w, h, labels))),
+        _ => Answer::Labelling(again(times, || L::label(list, n, w, h, c, labels))),
     }
 }
 
 /// Region or drive. Each drive is made from the same state.
 fn drive_again<L: Layer>(call: Call, input: &Input, room: &mut Room, times: usize) -> Answer {
     let (list, n) = (black_box(&input.list[..]), input.list.len());
-    let (w, h) = black_box((input.side, input.side));
+    let (w, h, c) = black_box((input.side, input.side, input.clearance));
     let ((sx, sy), (dx, dy)) = black_box((input.s, input.d));
     let (labels, g) = (&mut room.labels, &mut room.region);
     if call == Call::Region {
-        let region = || L::region(list, n, w, h, sx, sy, dx, dy, labels, g);
+        let region = || L::region(list, n, w, h, c, sx, sy, dx, dy, labels, g);
         return Answer::Refusal(again(times, region));
     }
     let (route, z) = (&mut room.route, &mut room.state);
     let drive = || {
         *z = STATE;
-        L::drive(list, n, w, h, sx, sy, dx, dy, labels, g, route, z)
+        L::drive(list, n, w, h, c, sx, sy, dx, dy, labels, g, route, z)
     };
     Answer::Drove(again(times, drive))
 }
@@ -241,11 +249,11 @@ fn drive_again<L: Layer>(call: Call, input: &Input, room: &mut Room, times: usiz
 /// The check of a drive from one end to the other.
 fn check_again<L: Layer>(input: &Input, room: &mut Room, times: usize) -> Answer {
     let (list, n) = (black_box(&input.list[..]), input.list.len());
-    let (w, h) = black_box((input.side, input.side));
+    let (w, h, c) = black_box((input.side, input.side, input.clearance));
     let ((sx, sy), (dx, dy)) = black_box((input.s, input.d));
     let drawn = black_box(&input.drawn[..]);
     let labels = &mut room.labels;
-    let check = || L::check(list, n, w, h, sx, sy, dx, dy, labels, drawn);
+    let check = || L::check(list, n, w, h, c, sx, sy, dx, dy, labels, drawn);
     Answer::Checked(again(times, check))
 }
 
@@ -253,17 +261,17 @@ fn check_again<L: Layer>(input: &Input, room: &mut Room, times: usize) -> Answer
 /// is assured: most such pairs have lines.
 fn lines_again<L: Layer>(call: Call, input: &Input, room: &mut Room, times: usize) -> Answer {
     let (list, n) = (black_box(&input.list[..]), input.list.len());
-    let (w, h) = black_box((input.side, input.side));
+    let (w, h, c) = black_box((input.side, input.side, input.clearance));
     let ((sx, sy), (dx, dy)) = black_box((input.home, input.place));
     let (labels, g) = (&mut room.labels, &mut room.region);
     if call == Call::Lines {
-        let lines = || L::lines(list, n, w, h, sx, sy, dx, dy, labels);
+        let lines = || L::lines(list, n, w, h, c, sx, sy, dx, dy, labels);
         return Answer::CrossingLines(again(times, lines));
     }
     let (route, z) = (&mut room.route, &mut room.state);
     let drive = || {
         *z = STATE;
-        L::lines_drive(list, n, w, h, sx, sy, dx, dy, labels, g, route, z)
+        L::lines_drive(list, n, w, h, c, sx, sy, dx, dy, labels, g, route, z)
     };
     Answer::Drove(again(times, drive))
 }
@@ -272,22 +280,15 @@ fn lines_again<L: Layer>(call: Call, input: &Input, room: &mut Room, times: usiz
 /// moves.
 pub fn enter_again<L: Listing>(input: &Input, room: &mut Room, times: usize) -> Answer {
     let (n, side) = (input.list.len(), black_box(input.side));
-    let Marker { id, x, y } = black_box(input.list[0]);
+    let Marker { id, x, y, height } = black_box(input.list[0]);
+    let (x, y) = (usize::from(x), usize::from(y));
     let mut window = Window::to_enter(input);
     for _ in 1..times {
         let lent = window.lent();
-        black_box(L::enter(
-            lent,
-            n - 1,
-            side,
-            side,
-            id,
-            x as usize,
-            y as usize,
-        ));
+        black_box(L::enter(lent, n - 1, side, side, id, x, y, height));
         window.entered();
     }
-    let last = L::enter(window.lent(), n - 1, side, side, id, x as usize, y as usize);
+    let last = L::enter(window.lent(), n - 1, side, side, id, x, y, height);
     room.slots[..n].copy_from_slice(window.lent());
     Answer::Counted(last)
 }

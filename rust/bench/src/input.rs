@@ -13,7 +13,10 @@ const TRIES: usize = 12;
 /// One map, and what is asked over it.
 pub struct Input {
     pub side: usize,
-    /// A marker on each rock's crossing, by number. Ids start at 2, so that 1 is free.
+    /// The clearance of the cart that asks.
+    pub clearance: u16,
+    /// A marker on each rock's crossing, by number. Ids start at 2, so that 1 is free. Each is as
+    /// high as can be, but those of `stones`.
     pub list: Vec<Marker>,
     /// The map as a P1 file with a row a line, and as a P4 file.
     pub text: Vec<u8>,
@@ -40,10 +43,11 @@ impl Input {
         let sheet: Vec<u16> = (0..side * side).map(|i| (i * 37 % 65_521) as u16).collect();
         let mut input = Input {
             side,
+            clearance: maps::clearance(name),
             picture: picture(&sheet, side),
             old_picture: old_picture(&sheet, side),
             sheet,
-            list: markers(&map, side),
+            list: markers(&map, &maps::heights(name, side), side),
             text: text(&map, side),
             packed: packed(&map, side),
             s: (0, 0),
@@ -62,7 +66,8 @@ impl Input {
     fn choose_places(&mut self) {
         let side = self.side;
         let mut labels = vec![0; side * side];
-        Plain::label(&self.list, self.list.len(), side, side, &mut labels);
+        let n = self.list.len();
+        Plain::label(&self.list, n, side, side, self.clearance, &mut labels);
         let mut open: Vec<Place> = (0..side * side)
             .filter(|&i| labels[i] == 0)
             .map(|i| (i % side, i / side))
@@ -84,7 +89,8 @@ impl Input {
         let mut labels = vec![0; side * side];
         let mut region = labels.clone();
         let (labels, region) = (&mut labels, &mut region);
-        Plain::region(list, n, side, side, sx, sy, dx, dy, labels, region) == 0
+        let c = self.clearance;
+        Plain::region(list, n, side, side, c, sx, sy, dx, dy, labels, region) == 0
     }
 
     /// A drive from s to d, or nothing.
@@ -94,9 +100,9 @@ impl Input {
         let mut labels = vec![0; side * side];
         let mut region = labels.clone();
         let mut route = vec![0; 2 * side];
-        let (labels, region, mut z) = (&mut labels, &mut region, 1);
+        let (labels, region, c, mut z) = (&mut labels, &mut region, self.clearance, 1);
         let drove = Plain::drive(
-            list, n, side, side, sx, sy, dx, dy, labels, region, &mut route, &mut z,
+            list, n, side, side, c, sx, sy, dx, dy, labels, region, &mut route, &mut z,
         );
         route.truncate(drove.length);
         route
@@ -107,8 +113,8 @@ impl Input {
     fn farthest_assured(&self, home: Place, open: &[Place]) -> Place {
         let (list, n, side) = (&self.list, self.list.len(), self.side);
         let mut labels = vec![0; side * side];
-        let (hx, hy) = home;
-        let four = Plain::distances(list, n, side, side, hx, hy, &mut labels).four;
+        let ((hx, hy), c) = (home, self.clearance);
+        let four = Plain::distances(list, n, side, side, c, hx, hy, &mut labels).four;
         let [east, south, west, north] = four.map(usize::from);
         let assured = |&(x, y): &Place| {
             let row = if x < hx { west } else { east };
@@ -125,8 +131,8 @@ fn distance(a: Place, b: Place) -> usize {
     a.0.abs_diff(b.0) + a.1.abs_diff(b.1)
 }
 
-/// A marker on each rock's crossing.
-fn markers(map: &[bool], side: usize) -> Vec<Marker> {
+/// A marker on each rock's crossing, of the crossing's height.
+fn markers(map: &[bool], heights: &[u16], side: usize) -> Vec<Marker> {
     let rocks = (0..map.len()).filter(|&i| map[i]);
     rocks
         .zip(2..)
@@ -134,6 +140,7 @@ fn markers(map: &[bool], side: usize) -> Vec<Marker> {
             id,
             x: (i % side) as u16,
             y: (i / side) as u16,
+            height: heights[i],
         })
         .collect()
 }

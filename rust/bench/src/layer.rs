@@ -15,6 +15,7 @@ pub trait Listing {
         id: u16,
         x: usize,
         y: usize,
+        height: u16,
     ) -> Counted;
 
     fn clear(list: &mut [Marker], count: usize, w: usize, h: usize, id: u16) -> Counted;
@@ -22,13 +23,21 @@ pub trait Listing {
 
 /// All sixteen.
 pub trait Layer: Listing {
-    fn label(list: &[Marker], count: usize, w: usize, h: usize, labels: &mut [u8]) -> Labelling;
+    fn label(
+        list: &[Marker],
+        count: usize,
+        w: usize,
+        h: usize,
+        clearance: u16,
+        labels: &mut [u8],
+    ) -> Labelling;
 
     fn distances(
         list: &[Marker],
         count: usize,
         w: usize,
         h: usize,
+        clearance: u16,
         x: usize,
         y: usize,
         labels: &mut [u8],
@@ -39,6 +48,7 @@ pub trait Layer: Listing {
         count: usize,
         w: usize,
         h: usize,
+        clearance: u16,
         labels: &mut [u8],
         east: &mut [u16],
         south: &mut [u16],
@@ -51,6 +61,7 @@ pub trait Layer: Listing {
         count: usize,
         w: usize,
         h: usize,
+        clearance: u16,
         hx: usize,
         hy: usize,
         x: usize,
@@ -63,6 +74,7 @@ pub trait Layer: Listing {
         count: usize,
         w: usize,
         h: usize,
+        clearance: u16,
         hx: usize,
         hy: usize,
         x: usize,
@@ -75,6 +87,7 @@ pub trait Layer: Listing {
         count: usize,
         w: usize,
         h: usize,
+        clearance: u16,
         sx: usize,
         sy: usize,
         dx: usize,
@@ -88,6 +101,7 @@ pub trait Layer: Listing {
         count: usize,
         w: usize,
         h: usize,
+        clearance: u16,
         sx: usize,
         sy: usize,
         dx: usize,
@@ -103,6 +117,7 @@ pub trait Layer: Listing {
         count: usize,
         w: usize,
         h: usize,
+        clearance: u16,
         sx: usize,
         sy: usize,
         dx: usize,
@@ -116,6 +131,7 @@ pub trait Layer: Listing {
         count: usize,
         w: usize,
         h: usize,
+        clearance: u16,
         sx: usize,
         sy: usize,
         dx: usize,
@@ -128,6 +144,7 @@ pub trait Layer: Listing {
         count: usize,
         w: usize,
         h: usize,
+        clearance: u16,
         sx: usize,
         sy: usize,
         dx: usize,
@@ -140,7 +157,14 @@ pub trait Layer: Listing {
 
     fn read(file: &[u8], list: &mut [Marker]) -> ReadMap;
 
-    fn write(list: &[Marker], count: usize, w: usize, h: usize, out: &mut [u8]) -> WroteMap;
+    fn write(
+        list: &[Marker],
+        count: usize,
+        w: usize,
+        h: usize,
+        clearance: u16,
+        out: &mut [u8],
+    ) -> WroteMap;
 
     fn write_sheet(sheet: &[u16], w: usize, h: usize, out: &mut [u8]) -> SheetWritten;
 

@@ -19,8 +19,10 @@ impl Listing for Library {
         id: u16,
         x: usize,
         y: usize,
+        height: u16,
     ) -> Counted {
-        unsafe { sys::bodkin_enter(list.as_mut_ptr(), list.len(), count, w, h, id, x, y) }
+        let (list, lent) = (list.as_mut_ptr(), list.len());
+        unsafe { sys::bodkin_enter(list, lent, count, w, h, id, x, y, height) }
     }
 
     fn clear(list: &mut [Marker], count: usize, w: usize, h: usize, id: u16) -> Counted {
@@ -29,7 +31,14 @@ impl Listing for Library {
 }
 
 impl Layer for Library {
-    fn label(list: &[Marker], count: usize, w: usize, h: usize, labels: &mut [u8]) -> Labelling {
+    fn label(
+        list: &[Marker],
+        count: usize,
+        w: usize,
+        h: usize,
+        clearance: u16,
+        labels: &mut [u8],
+    ) -> Labelling {
         let n = labels.len();
         unsafe {
             sys::bodkin_label(
@@ -38,6 +47,7 @@ impl Layer for Library {
                 count,
                 w,
                 h,
+                clearance,
                 labels.as_mut_ptr(),
                 n,
             )
@@ -49,13 +59,27 @@ impl Layer for Library {
         count: usize,
         w: usize,
         h: usize,
+        clearance: u16,
         x: usize,
         y: usize,
         labels: &mut [u8],
     ) -> Four {
         let (list, lent) = (list.as_ptr(), list.len());
         let n = labels.len();
-        unsafe { sys::bodkin_distances(list, lent, count, w, h, x, y, labels.as_mut_ptr(), n) }
+        unsafe {
+            sys::bodkin_distances(
+                list,
+                lent,
+                count,
+                w,
+                h,
+                clearance,
+                x,
+                y,
+                labels.as_mut_ptr(),
+                n,
+            )
+        }
     }
 
     fn measure(
@@ -63,6 +87,7 @@ impl Layer for Library {
         count: usize,
         w: usize,
         h: usize,
+        clearance: u16,
         labels: &mut [u8],
         east: &mut [u16],
         south: &mut [u16],
@@ -76,6 +101,7 @@ impl Layer for Library {
                 count,
                 w,
                 h,
+                clearance,
                 labels.as_mut_ptr(),
                 labels.len(),
                 east.as_mut_ptr(),
@@ -95,6 +121,7 @@ impl Layer for Library {
         count: usize,
         w: usize,
         h: usize,
+        clearance: u16,
         hx: usize,
         hy: usize,
         x: usize,
@@ -103,7 +130,7 @@ impl Layer for Library {
     ) -> Assurance {
         let (list, lent) = (list.as_ptr(), list.len());
         let (labels, n) = (labels.as_mut_ptr(), labels.len());
-        unsafe { sys::bodkin_assured(list, lent, count, w, h, hx, hy, x, y, labels, n) }
+        unsafe { sys::bodkin_assured(list, lent, count, w, h, clearance, hx, hy, x, y, labels, n) }
     }
 
     fn hop(
@@ -111,6 +138,7 @@ impl Layer for Library {
         count: usize,
         w: usize,
         h: usize,
+        clearance: u16,
         hx: usize,
         hy: usize,
         x: usize,
@@ -119,7 +147,7 @@ impl Layer for Library {
     ) -> Homeward {
         let (list, lent) = (list.as_ptr(), list.len());
         let (labels, n) = (labels.as_mut_ptr(), labels.len());
-        unsafe { sys::bodkin_hop(list, lent, count, w, h, hx, hy, x, y, labels, n) }
+        unsafe { sys::bodkin_hop(list, lent, count, w, h, clearance, hx, hy, x, y, labels, n) }
     }
 
     fn region(
@@ -127,6 +155,7 @@ impl Layer for Library {
         count: usize,
         w: usize,
         h: usize,
+        clearance: u16,
         sx: usize,
         sy: usize,
         dx: usize,
@@ -141,6 +170,7 @@ impl Layer for Library {
                 count,
                 w,
                 h,
+                clearance,
                 sx,
                 sy,
                 dx,
@@ -158,6 +188,7 @@ impl Layer for Library {
         count: usize,
         w: usize,
         h: usize,
+        clearance: u16,
         sx: usize,
         sy: usize,
         dx: usize,
@@ -174,6 +205,7 @@ impl Layer for Library {
                 count,
                 w,
                 h,
+                clearance,
                 sx,
                 sy,
                 dx,
@@ -194,6 +226,7 @@ impl Layer for Library {
         count: usize,
         w: usize,
         h: usize,
+        clearance: u16,
         sx: usize,
         sy: usize,
         dx: usize,
@@ -208,6 +241,7 @@ impl Layer for Library {
                 count,
                 w,
                 h,
+                clearance,
                 sx,
                 sy,
                 dx,
@@ -225,6 +259,7 @@ impl Layer for Library {
         count: usize,
         w: usize,
         h: usize,
+        clearance: u16,
         sx: usize,
         sy: usize,
         dx: usize,
@@ -238,6 +273,7 @@ impl Layer for Library {
                 count,
                 w,
                 h,
+                clearance,
                 sx,
                 sy,
                 dx,
@@ -253,6 +289,7 @@ impl Layer for Library {
         count: usize,
         w: usize,
         h: usize,
+        clearance: u16,
         sx: usize,
         sy: usize,
         dx: usize,
@@ -269,6 +306,7 @@ impl Layer for Library {
                 count,
                 w,
                 h,
+                clearance,
                 sx,
                 sy,
                 dx,
@@ -288,9 +326,27 @@ impl Layer for Library {
         unsafe { sys::bodkin_read(file.as_ptr(), file.len(), list.as_mut_ptr(), list.len()) }
     }
 
-    fn write(list: &[Marker], count: usize, w: usize, h: usize, out: &mut [u8]) -> WroteMap {
+    fn write(
+        list: &[Marker],
+        count: usize,
+        w: usize,
+        h: usize,
+        clearance: u16,
+        out: &mut [u8],
+    ) -> WroteMap {
         let n = out.len();
-        unsafe { sys::bodkin_write(list.as_ptr(), list.len(), count, w, h, out.as_mut_ptr(), n) }
+        unsafe {
+            sys::bodkin_write(
+                list.as_ptr(),
+                list.len(),
+                count,
+                w,
+                h,
+                clearance,
+                out.as_mut_ptr(),
+                n,
+            )
+        }
     }
 
     fn write_sheet(sheet: &[u16], w: usize, h: usize, out: &mut [u8]) -> SheetWritten {

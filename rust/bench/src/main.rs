@@ -229,7 +229,14 @@ fn show(map: &str, side: &str) -> Option<()> {
     let rocks = maps::rocks(map, side)?;
     let input = Input::new(map, side)?;
     let mut labels = vec![0; side * side];
-    let counts = Library::label(&input.list, input.list.len(), side, side, &mut labels);
+    let counts = Library::label(
+        &input.list,
+        input.list.len(),
+        side,
+        side,
+        input.clearance,
+        &mut labels,
+    );
     println!("{}", maps::show(&rocks, side));
     for row in labels.chunks(side).rev() {
         let signs = row.iter().map(|&b| ['.', '#', 'o'][b as usize]);

@@ -2,10 +2,11 @@
 use crate::plain::MOST_MARKERS;
 
 /// Every map's name.
-pub const NAMES: [&str; 12] = [
+pub const NAMES: [&str; 13] = [
     "empty",
     "sparse",
     "dense",
+    "stones",
     "full",
     "diagonal",
     "chequerboard",
@@ -33,7 +34,7 @@ pub fn rocks(name: &str, side: usize) -> Option<Vec<bool>> {
     match name {
         "empty" => each(|_, _| false),
         "sparse" => Some(drawn(side, 5, SEED)),
-        "dense" => Some(drawn(side, 30, SEED)),
+        "dense" | "stones" => Some(drawn(side, 30, SEED)),
         "full" => Some((0..side * side).map(|i| i < MOST_MARKERS).collect()),
         "diagonal" => each(|x, y| x == y),
         "chequerboard" => each(|x, y| (x + y) % 2 == 0),
@@ -45,6 +46,27 @@ pub fn rocks(name: &str, side: usize) -> Option<Vec<bool>> {
         "winding" => Some(winding(side)),
         _ => None,
     }
+}
+
+/// The clearance of the cart that is asked for over `stones`, and over every other map.
+pub fn clearance(name: &str) -> u16 {
+    if name == "stones" {
+        20
+    } else {
+        0
+    }
+}
+
+/// The height of a marker on each crossing. Of `stones` those that `sparse` has too, which are drawn
+/// first, are one higher than the cart's clearance, and all others just as high as it: for that
+/// cart the rocks are those of `sparse`, and the list is that of `dense`.
+pub fn heights(name: &str, side: usize) -> Vec<u16> {
+    if name != "stones" {
+        return vec![u16::MAX; side * side];
+    }
+    let higher = drawn(side, 5, SEED);
+    let height = |rock: bool| clearance(name) + u16::from(rock);
+    higher.into_iter().map(height).collect()
 }
 
 /// Whether the map's rocks fit in a list. Those of other shapes than `full` and `dense` do not on

@@ -25,7 +25,12 @@ impl Room {
     /// Room for a map's calls. Nothing in it is 0, so that a byte left out shows.
     pub fn new(input: &Input) -> Room {
         let size = input.side * input.side;
-        let stale = Marker { id: 9, x: 9, y: 9 };
+        let stale = Marker {
+            id: 9,
+            x: 9,
+            y: 9,
+            height: 9,
+        };
         Room {
             labels: vec![9; size],
             region: vec![9; size],

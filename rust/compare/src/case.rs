@@ -87,6 +87,11 @@ impl Call {
         }
     }
 
+    /// Whether the call takes a clearance: every asking, and writing a map.
+    pub fn for_a_cart(self) -> bool {
+        self.sheets() > 0 || self == Call::Write
+    }
+
     /// How many places the call is asked about: home and place, or s and d.
     pub fn places(self) -> usize {
         match self {
@@ -132,8 +137,12 @@ pub struct Memory {
 pub struct Case {
     pub call: Call,
     pub map: Map,
+    /// The cart's ground clearance.
+    pub clearance: u16,
     pub count: usize,
     pub id: u16,
+    /// The height of a marker that is entered.
+    pub height: u16,
     /// Home and place, or s and d; a call with one place takes the first.
     pub places: [Crossing; 2],
     pub before: Memory,
@@ -146,8 +155,10 @@ impl Case {
         Case {
             call,
             map,
+            clearance: 0,
             count: 0,
             id: 0,
+            height: 0,
             places: [Crossing::new(0, 0); 2],
             before: Memory::default(),
             notes: Vec::new(),

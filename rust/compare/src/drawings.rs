@@ -112,7 +112,7 @@ fn again(random: &mut Random, drawn: &mut Vec<u16>, back: usize) {
 
 /// The chooser's drive, or a straight line where there is none.
 fn a_drive(random: &mut Random, case: &Case) -> Vec<Crossing> {
-    let on = Labelled::new(case.map, &case.before.list[..case.count]);
+    let on = Labelled::new(case.map, case.clearance, &case.before.list[..case.count]);
     let [s, d] = case.places;
     if on.end_closed(&case.places) {
         return straight(random, case);

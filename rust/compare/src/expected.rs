@@ -36,6 +36,7 @@ fn asking(case: &Case) -> Asking<'_> {
         list: &case.before.list,
         count: case.count,
         map: case.map,
+        clearance: case.clearance,
         labels: &case.before.labels,
         places: &case.places[..case.call.places()],
     }
@@ -45,7 +46,7 @@ fn counted(case: &Case, memory: &mut Memory) -> Answer {
     let (list, count, map) = (&case.before.list, case.count, case.map);
     let place = (case.places[0].x, case.places[0].y);
     let after = match case.call {
-        Call::Enter => markers::enter(list, count, map, case.id, place),
+        Call::Enter => markers::enter(list, count, map, case.id, place, case.height),
         _ => markers::clear(list, count, map, case.id),
     };
     memory.list = after.list;
@@ -53,7 +54,14 @@ fn counted(case: &Case, memory: &mut Memory) -> Answer {
 }
 
 fn label(case: &Case, memory: &mut Memory) -> Answer {
-    let after = labels::label(&case.before.list, case.count, case.map, &case.before.labels);
+    let before = &case.before;
+    let after = labels::label(
+        &before.list,
+        case.count,
+        case.map,
+        case.clearance,
+        &before.labels,
+    );
     memory.labels = after.labels;
     let answer = vec![
         ("rocks", after.rocks),
@@ -154,7 +162,14 @@ fn read(case: &Case, memory: &mut Memory) -> Answer {
 }
 
 fn write(case: &Case, memory: &mut Memory) -> Answer {
-    let after = files::write(&case.before.list, case.count, case.map, &case.before.out);
+    let before = &case.before;
+    let after = files::write(
+        &before.list,
+        case.count,
+        case.map,
+        case.clearance,
+        &before.out,
+    );
     memory.out = after.out;
     (after.refusal, vec![("bytes", after.bytes)])
 }

@@ -33,6 +33,7 @@ impl Element for grainbodkin_sys::Marker {
             id: u16::guard(place),
             x: u16::guard(place + 1),
             y: u16::guard(place + 2),
+            height: u16::guard(place + 3),
         }
     }
 }

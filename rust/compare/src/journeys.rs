@@ -1,11 +1,12 @@
-//! Carts that are sent home on the compiled library: random maps, an assured place, and at each hop
-//! any crossing that the answer names. A cart must be home after exactly the east-west plus
-//! north-south distance, on open crossings only.
+//! Carts that are sent home on the compiled library: random maps and stones, an assured place, and
+//! at each hop any crossing that the answer names. A cart must be home after exactly the east-west
+//! plus north-south distance, on open crossings only: by stones that it passes over, never by a
+//! rock.
+use crate::asked::Asked;
 use crate::maps;
 use crate::random::Random;
-use grainbodkin_sys::{self as sys, Marker};
-use independent::map::{Crossing, Map};
-use independent::markers::MOST;
+use crate::stones::CLEARANCES;
+use independent::map::Crossing;
 
 /// So many pairs of a home and a place are asked about.
 const PAIRS: u64 = 20_000;
@@ -23,17 +24,20 @@ pub struct Journeys {
     /// By both tests, by crossing lines alone, by assurance alone, by neither though there is a
     /// shortest drive, and by neither where there is none.
     pub tests: [u64; 5],
+    /// Journeys on which a cart passes over a stone.
+    pub over_stones: u64,
     pub faults: Vec<String>,
 }
 
 impl Journeys {
     pub fn print(&self) {
         println!(
-            "journeys: {} pairs of open crossings; assured {}, of these {} only since an offset equal to home's distance is enough; every cart home by \
-             random hops in the exact count: {}",
+            "journeys: {} pairs of open crossings; assured {}, of these {} only since an offset equal to home's distance is enough, and {} over stones; \
+             every cart home by random hops in the exact count: {}",
             self.pairs,
             self.short_of_it + self.at_the_distance,
             self.at_the_distance,
+            self.over_stones,
             if self.faults.is_empty() { "yes" } else { "NO" }
         );
         let [both, lines, assured, neither, none] = self.tests;
@@ -44,103 +48,22 @@ impl Journeys {
     }
 }
 
-/// A map and its markers, as every call is asked about them, and the label sheet that is lent.
-struct Asked {
-    map: Map,
-    list: Vec<Marker>,
-    labels: Vec<u8>,
-}
-
+/// What a journey is asked of its map.
 impl Asked {
-    fn of(map: Map, rocks: &[Crossing]) -> Asked {
-        let marker = |(i, c): (usize, &Crossing)| Marker {
-            id: i as u16 + 1,
-            x: c.x as u16,
-            y: c.y as u16,
-        };
-        Asked {
-            map,
-            list: rocks.iter().enumerate().take(MOST).map(marker).collect(),
-            labels: vec![0; map.width * map.height],
-        }
-    }
-
-    fn open(&self, c: Crossing) -> bool {
-        self.labels[c.y * self.map.width + c.x] == 0
-    }
-
-    fn label(&mut self) {
-        let (w, h, n) = (self.map.width, self.map.height, self.list.len());
-        let (list, labels) = (self.list.as_ptr(), self.labels.as_mut_ptr());
-        unsafe { sys::bodkin_label(list, n, n, w, h, labels, self.labels.len()) };
-    }
-
-    fn assured(&mut self, home: Crossing, place: Crossing) -> bool {
-        let (w, h, n) = (self.map.width, self.map.height, self.list.len());
-        let (list, labels) = (self.list.as_ptr(), self.labels.as_mut_ptr());
-        let size = self.labels.len();
-        unsafe {
-            sys::bodkin_assured(
-                list, n, n, w, h, home.x, home.y, place.x, place.y, labels, size,
-            )
-        }
-        .assured
-    }
-
-    fn lines(&mut self, s: Crossing, d: Crossing) -> bool {
-        let (w, h, n) = (self.map.width, self.map.height, self.list.len());
-        let (list, labels) = (self.list.as_ptr(), self.labels.as_mut_ptr());
-        let size = self.labels.len();
-        unsafe { sys::bodkin_lines(list, n, n, w, h, s.x, s.y, d.x, d.y, labels, size) }.yes
-    }
-
-    fn has_drive(&mut self, s: Crossing, d: Crossing) -> bool {
-        let (w, h, n) = (self.map.width, self.map.height, self.list.len());
-        let (list, labels) = (self.list.as_ptr(), self.labels.as_mut_ptr());
-        let size = self.labels.len();
-        let mut sheet = vec![0; size];
-        let region = sheet.as_mut_ptr();
-        0 == unsafe {
-            sys::bodkin_region(
-                list, n, n, w, h, s.x, s.y, d.x, d.y, labels, size, region, size,
-            )
-        }
-    }
-
     /// Which test says that a drive is sure: a place among `Journeys`' five.
     fn tests(&mut self, home: Crossing, place: Crossing) -> usize {
         match (self.lines(home, place), self.assured(home, place)) {
             (true, true) => 0,
             (true, false) => 1,
             (false, true) => 2,
-            (false, false) => 4 - usize::from(self.has_drive(home, place)),
+            (false, false) => 4 - usize::from(self.region(home, place).0 == 0),
         }
-    }
-
-    fn four(&mut self, c: Crossing) -> [usize; 4] {
-        let (w, h, n) = (self.map.width, self.map.height, self.list.len());
-        let (list, labels) = (self.list.as_ptr(), self.labels.as_mut_ptr());
-        let size = self.labels.len();
-        unsafe { sys::bodkin_distances(list, n, n, w, h, c.x, c.y, labels, size) }
-            .four
-            .map(usize::from)
     }
 
     /// One hop that the answer names, at random; none at home or at a refusal.
     fn hop(&mut self, random: &mut Random, home: Crossing, place: Crossing) -> Option<Crossing> {
-        let (w, h, n) = (self.map.width, self.map.height, self.list.len());
-        let (list, labels) = (self.list.as_ptr(), self.labels.as_mut_ptr());
-        let size = self.labels.len();
-        let after = unsafe {
-            sys::bodkin_hop(
-                list, n, n, w, h, home.x, home.y, place.x, place.y, labels, size,
-            )
-        };
-        match after.hops {
-            0 => None,
-            2 if random.percent(50) => Some(Crossing::new(after.a, after.b)),
-            _ => Some(Crossing::new(after.x, after.y)),
-        }
+        let hops = self.hops(home, place);
+        (!hops.is_empty()).then(|| random.pick(&hops))
     }
 
     /// Whether an offset equals home's distance that way, and so document 01's first rule would
@@ -153,13 +76,23 @@ impl Asked {
             || place.y != home.y && place.y.abs_diff(home.y) == column
     }
 
-    /// The cart's way from the place: what went wrong, if anything did.
-    fn journey(&mut self, random: &mut Random, home: Crossing, place: Crossing) -> Option<String> {
-        let distance = place.x.abs_diff(home.x) + place.y.abs_diff(home.y);
+    /// The cart's way from the place, and whether stones lie on it: what went wrong, if anything
+    /// did.
+    fn journey(
+        &mut self,
+        random: &mut Random,
+        home: Crossing,
+        place: Crossing,
+        stones: &mut bool,
+    ) -> Option<String> {
+        let distance = place.distance(home);
         let mut at = place;
         for hops in 0..distance {
             match self.hop(random, home, at) {
-                Some(next) if self.open(next) => at = next,
+                Some(next) if self.open(next) => {
+                    at = next;
+                    *stones |= self.stone(at);
+                }
                 Some(next) => {
                     return Some(format!(
                         "a cart hops from {at:?} onto {next:?}, which is closed"
@@ -187,7 +120,9 @@ pub fn run(seed: u64) -> Journeys {
         index += 1;
         let (_, map) = maps::size(&mut random);
         let (_, rocks) = maps::rocks(&mut random, map);
-        let mut asked = Asked::of(map, &rocks);
+        let (_, clearance) = random.by_weight(&CLEARANCES);
+        let clearance = clearance(&mut random);
+        let mut asked = Asked::new(&mut random, map, clearance, &rocks);
         asked.label();
         let ends = [maps::any(&mut random, map), maps::any(&mut random, map)];
         if ends.iter().any(|&c| !asked.open(c)) {
@@ -197,7 +132,7 @@ pub fn run(seed: u64) -> Journeys {
         let [home, place] = ends;
         let test = asked.tests(home, place);
         seen.tests[test] += 1;
-        if test < 3 && !asked.has_drive(home, place) {
+        if test < 3 && asked.region(home, place).0 != 0 {
             seen.faults.push(format!(
                 "journey {index}: a drive is sure, and there is none"
             ));
@@ -210,9 +145,14 @@ pub fn run(seed: u64) -> Journeys {
         } else {
             seen.short_of_it += 1;
         }
-        let fault = asked.journey(&mut random, home, place);
+        let mut stones = false;
+        let fault = asked.journey(&mut random, home, place, &mut stones);
+        seen.over_stones += u64::from(stones);
         seen.faults
             .extend(fault.map(|f| format!("journey {index}: {f}")));
+    }
+    if seen.over_stones == 0 {
+        seen.faults.push("no journey went over a stone".to_string());
     }
     if seen.at_the_distance == 0 {
         seen.faults

@@ -26,6 +26,7 @@ impl Lendings {
             id: m.id,
             x: m.x,
             y: m.y,
+            height: m.height,
         };
         Lendings {
             list: Lent::new(before.list.iter().map(there)),
@@ -46,6 +47,7 @@ impl Lendings {
             id: m.id,
             x: m.x,
             y: m.y,
+            height: m.height,
         };
         Memory {
             list: self.list.content().iter().map(back).collect(),

@@ -2,13 +2,13 @@
 use crate::case::{Call, Case};
 use crate::random::Random;
 use independent::map::{Crossing, SIDE};
-use independent::markers::{Marker, MOST};
+use independent::markers::{Marker, MOST, TALLEST};
 
 /// A way to harm a case: its name and what it does.
 pub type Harm = (&'static str, fn(&mut Random, &mut Case));
 
-/// Lends the case a well-formed list whose rocks are these, with slots past the count full of
-/// noise.
+/// Lends the case a well-formed list with markers on these crossings, with slots past the count
+/// full of noise.
 pub fn lend(random: &mut Random, case: &mut Case, rocks: &[Crossing]) {
     let mut places = rocks.to_vec();
     if random.percent(25) && !places.is_empty() {
@@ -39,10 +39,13 @@ pub fn lend(random: &mut Random, case: &mut Case, rocks: &[Crossing]) {
 
 /// Noise for slots that no call reads. Part of it looks like markers in use.
 pub fn noise(random: &mut Random, slots: usize) -> Vec<Marker> {
-    let any = |r: &mut Random| match r.below(3) {
+    let any = |r: &mut Random| match r.below(4) {
         0 => Marker::default(),
         1 => marker(r.word(), r.below(SIDE), r.below(SIDE)),
-        _ => marker(r.word(), r.word().into(), r.word().into()),
+        _ => Marker {
+            height: r.word(),
+            ..marker(r.word(), r.word().into(), r.word().into())
+        },
     };
     (0..slots).map(|_| any(random)).collect()
 }
@@ -65,11 +68,13 @@ fn ids(random: &mut Random, count: usize) -> Vec<u16> {
     }
 }
 
+/// A marker as high as can be.
 fn marker(id: u16, x: usize, y: usize) -> Marker {
     Marker {
         id,
         x: x as u16,
         y: y as u16,
+        height: TALLEST,
     }
 }
 

@@ -1,5 +1,6 @@
 //! Compares the proved library, call by call and byte by byte, with the independent program over
-//! random cases; and the labelling program and the depots program with the independent texts.
+//! random cases; and the labelling program and the depots program with the independent texts. Then
+//! carts are sent home, and carts of two clearances are compared over one list.
 //!
 //!     compare [CASES] [SEED] [FIRST] [--label PATH] [--depots PATH] [--aloud]
 //!
@@ -8,6 +9,8 @@
 //! variable GRAINBODKIN_LABEL, names the labelling program, `--depots PATH` the depots program.
 //! `--aloud` prints each number before its call, to find a call that does not come back. The status
 //! is 0 only without a difference and, in a whole run, with everything reached.
+mod asked;
+mod carts;
 mod case;
 mod child;
 mod depots;
@@ -29,6 +32,7 @@ mod places;
 mod program;
 mod random;
 mod report;
+mod stones;
 mod streams;
 mod tally;
 
@@ -59,6 +63,7 @@ fn main() -> ExitCode {
         }
     }
     tally.print();
+    tally.print_stones();
     let mut faults = tally.strange.clone();
     if options.cases >= tally::WHOLE {
         tally.print_notes();
@@ -78,6 +83,9 @@ fn main() -> ExitCode {
         let journeys = journeys::run(options.seed);
         journeys.print();
         faults.extend(journeys.faults);
+        let carts = carts::run(options.seed);
+        carts.print();
+        faults.extend(carts.faults);
     }
     for fault in &faults {
         println!("compare: {fault}");

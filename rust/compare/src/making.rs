@@ -1,5 +1,5 @@
-//! Makes the case with a given number: a call, a map, a list, places and buffers, and now and then
-//! something harmed.
+//! Makes the case with a given number: a call, a map, a list of stones, a cart, places and buffers,
+//! and now and then something harmed.
 use crate::case::{Call, Case};
 use crate::drawings;
 use crate::harms::{harm, SIZE_HARMS};
@@ -9,26 +9,27 @@ use crate::maps::{rocks, size};
 use crate::picturefiles;
 use crate::places;
 use crate::random::{Random, Weighted};
+use crate::stones;
 use independent::map::Map;
 
 /// How often each call is made, by weight.
 const WEIGHTS: [Weighted<Call>; 16] = [
-    ("enter", 9, Call::Enter),
-    ("clear", 6, Call::Clear),
-    ("label", 10, Call::Label),
-    ("distances", 7, Call::Distances),
-    ("measure", 6, Call::Measure),
-    ("assured", 8, Call::Assured),
-    ("hop", 10, Call::Hop),
-    ("region", 8, Call::Region),
+    ("enter", 11, Call::Enter),
+    ("clear", 11, Call::Clear),
+    ("label", 11, Call::Label),
+    ("distances", 11, Call::Distances),
+    ("measure", 11, Call::Measure),
+    ("assured", 11, Call::Assured),
+    ("hop", 11, Call::Hop),
+    ("region", 11, Call::Region),
     ("drive", 12, Call::Drive),
-    ("check", 15, Call::Check),
-    ("lines", 14, Call::Lines),
-    ("lines drive", 15, Call::LinesDrive),
-    ("read", 17, Call::Read),
-    ("write", 7, Call::Write),
-    ("write a sheet", 12, Call::WriteSheet),
-    ("read a sheet", 18, Call::ReadSheet),
+    ("check", 14, Call::Check),
+    ("lines", 13, Call::Lines),
+    ("lines drive", 14, Call::LinesDrive),
+    ("read", 15, Call::Read),
+    ("write", 12, Call::Write),
+    ("write a sheet", 11, Call::WriteSheet),
+    ("read a sheet", 14, Call::ReadSheet),
 ];
 
 /// How many harms a case comes to.
@@ -49,6 +50,7 @@ pub fn make(seed: u64, index: u64) -> Case {
     let mut case = Case::new(call, map);
     case.notes = vec![size, shape];
     lend(&mut random, &mut case, &rocks);
+    stones::choose(&mut random, &mut case);
     places::choose(&mut random, &mut case, &rocks);
     places::choose_id(&mut random, &mut case);
     lend_buffers(&mut random, &mut case);

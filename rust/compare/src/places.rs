@@ -7,7 +7,7 @@ use independent::map::{Crossing, Map};
 /// A choice of places: what it changes of two places chosen anywhere on the map.
 type Choice = Weighted<fn(&mut Random, &mut Case, &[Crossing])>;
 
-pub const PLACES: [Choice; 8] = [
+pub const PLACES: [Choice; 9] = [
     ("places anywhere", 6, |_, _, _| {}),
     ("a place on a rock", 1, |r, case, rocks| {
         if !rocks.is_empty() {
@@ -35,6 +35,15 @@ pub const PLACES: [Choice; 8] = [
             case.places = across(r, case.map, rock);
         }
     }),
+    (
+        "places at the other corners of two rocks",
+        1,
+        |r, case, rocks| {
+            if let Some(places) = other_corners(r, rocks) {
+                case.places = places;
+            }
+        },
+    ),
     ("places at two corners", 1, |r, case, _| {
         let (east, north) = (case.map.width - 1, case.map.height - 1);
         let x = r.pick(&[0, east]);
@@ -80,6 +89,20 @@ fn across(random: &mut Random, map: Map, rock: Crossing) -> [Crossing; 2] {
     } else {
         [other, one]
     }
+}
+
+/// Of a rock and the nearest one that is one row or one column away, not diagonally next to it: the
+/// other two corners of the rectangle that they span. No row, or no column, is open throughout it,
+/// and home may be assured all the same.
+fn other_corners(random: &mut Random, rocks: &[Crossing]) -> Option<[Crossing; 2]> {
+    if rocks.is_empty() {
+        return None;
+    }
+    let one = random.pick(rocks);
+    let aside = |c: &&Crossing| one.x.abs_diff(c.x).min(one.y.abs_diff(c.y)) == 1;
+    let others = rocks.iter().filter(aside).filter(|c| one.distance(**c) > 2);
+    let other = others.min_by_key(|c| one.distance(**c))?;
+    Some([Crossing::new(one.x, other.y), Crossing::new(other.x, one.y)])
 }
 
 /// Chooses an id: one in use, one beside it, 0, the last there is, or any.

@@ -90,12 +90,14 @@ pub fn describe(case: &Case) -> String {
     let _ = writeln!(text, "  made of: {}", case.notes.join("; "));
     let _ = writeln!(
         text,
-        "  {} on {} by {}, count {}, id {}, first place ({}, {}), second place ({}, {}), state {}",
+        "  {} on {} by {}, clearance {}, count {}, id {}, height {}, first place ({}, {}), second place ({}, {}), state {}",
         case.call.name(),
         case.map.width,
         case.map.height,
+        case.clearance,
         case.count,
         case.id,
+        case.height,
         a.x,
         a.y,
         b.x,
@@ -116,7 +118,7 @@ pub fn describe(case: &Case) -> String {
     );
     let slots = m.list.iter().take(SLOTS);
     let slots: Vec<String> = slots
-        .map(|m| format!("{}:({},{})", m.id, m.x, m.y))
+        .map(|m| format!("{}:({},{})^{}", m.id, m.x, m.y, m.height))
         .collect();
     let _ = writeln!(text, "  first slots: {}", slots.join(" "));
     if case.call == Call::Check {
@@ -129,13 +131,13 @@ pub fn describe(case: &Case) -> String {
     text + &drawn(case)
 }
 
-/// The rocks of the list, drawn from the north, where sizes and count allow it.
+/// The cart's rocks, drawn from the north, where sizes and count allow it.
 fn drawn(case: &Case) -> String {
     let mut text = String::new();
     if case.map.bad_size() || case.count > case.before.list.len() {
         return text;
     }
-    let rocks = rocks(&case.before.list[..case.count]);
+    let rocks = rocks(&case.before.list[..case.count], case.clearance);
     for y in (0..case.map.height).rev() {
         let row = (0..case.map.width).map(|x| {
             if rocks.contains(&Crossing::new(x, y)) {

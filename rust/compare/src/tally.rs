@@ -1,7 +1,7 @@
 //! What was reached: how often each call ended with each number, and how often each thing that
 //! cases are made of was used.
 use crate::case::{After, Call, Case, CALLS};
-use crate::{drawings, edits, harms, lists, making, mapfiles, maps, picturefiles, places};
+use crate::{drawings, edits, harms, lists, making, mapfiles, maps, picturefiles, places, stones};
 use independent::asking::Labelled;
 use independent::distances::{is_assured, NONE};
 use independent::drives::region_of;
@@ -18,6 +18,8 @@ pub const WHOLE: u64 = 100_000;
 pub struct Tally {
     ends: BTreeMap<&'static str, [u64; LAST + 1]>,
     notes: BTreeMap<&'static str, u64>,
+    /// Of each call, cases with a stone one lower than the clearance, equal to it, one higher.
+    beside: BTreeMap<&'static str, [u64; 3]>,
     pub cases: u64,
     pub successes: u64,
     pub strange: Vec<String>,
@@ -29,6 +31,7 @@ impl Tally {
         Tally {
             ends: BTreeMap::from(ends),
             notes: names().into_iter().map(|name| (name, 0)).collect(),
+            beside: BTreeMap::new(),
             cases: 0,
             successes: 0,
             strange: Vec::new(),
@@ -47,8 +50,15 @@ impl Tally {
         }
         let ends = self.ends.get_mut(case.call.name()).expect("every call");
         ends[usize::from(after.refusal)] += 1;
+        if case.call.for_a_cart() {
+            let beside = self.beside.entry(case.call.name()).or_default();
+            for (count, seen) in beside.iter_mut().zip(stones::beside(case)) {
+                *count += u64::from(seen);
+            }
+        }
         let mut notes = case.notes.clone();
         notes.extend(kinds(case, after));
+        notes.extend(stones::kinds(case, after));
         notes.extend(case.before.list.is_empty().then_some("a list of no slots"));
         notes.sort_unstable();
         notes.dedup();
@@ -65,6 +75,12 @@ impl Tally {
                 if self.ends[call.name()][usize::from(number)] == 0 {
                     missing.push(format!("{} never ended with {number}", call.name()));
                 }
+            }
+        }
+        for call in CALLS.iter().filter(|call| call.for_a_cart()) {
+            let beside = self.beside.get(call.name()).copied().unwrap_or_default();
+            if beside.contains(&0) {
+                missing.push(format!("{}: no stone beside the clearance", call.name()));
             }
         }
         let unused = self.notes.iter().filter(|(_, &count)| count == 0);
@@ -89,6 +105,14 @@ impl Tally {
                 }
             }
             println!();
+        }
+    }
+
+    /// How often stones stood beside the clearance, call by call.
+    pub fn print_stones(&self) {
+        println!("cases with a stone one lower than the clearance, as high, one higher:");
+        for (name, [lower, equal, higher]) in &self.beside {
+            println!("{name:<10}{lower:>7}{equal:>7}{higher:>7}");
         }
     }
 
@@ -161,7 +185,7 @@ const TESTS: [&str; 5] = [
 
 /// s as home, d as the place.
 fn assurances(case: &Case, lines: bool) -> &'static str {
-    let on = Labelled::new(case.map, &case.before.list[..case.count]);
+    let on = Labelled::new(case.map, case.clearance, &case.before.list[..case.count]);
     let [s, d] = case.places;
     let drive = || !region_of(&on, s, d).is_empty();
     match (lines, is_assured(&on, s, d)) {
@@ -180,7 +204,7 @@ const MEETINGS: [&str; 2] = [
 ];
 
 fn by_way(case: &Case) -> &'static str {
-    let on = Labelled::new(case.map, &case.before.list[..case.count]);
+    let on = Labelled::new(case.map, case.clearance, &case.before.list[..case.count]);
     let [s, d] = case.places;
     let meeting = lines_of(&on, s, d);
     MEETINGS[usize::from(meeting != Some(s) && meeting != Some(d))]
@@ -255,6 +279,9 @@ fn names() -> Vec<&'static str> {
         "answered: a drive by lines of no hops",
         "answered: 19 before 10",
     ]);
+    names.extend(stones::KINDS);
+    names.extend(stones::CLEARANCES.iter().map(|(name, _, _)| *name));
+    names.extend(stones::HEIGHTS.iter().map(|(name, _, _)| *name));
     names.extend(TESTS);
     names.extend(MEETINGS);
     names.extend(FOUND);
@@ -286,7 +313,8 @@ mod tests {
         let mut tally = Tally::new();
         let ends: usize = CALLS.iter().map(|call| call.possible().len()).sum();
         let all = tally.missing().len();
-        assert_eq!(all, ends + names().len());
+        let carts = CALLS.iter().filter(|call| call.for_a_cart()).count();
+        assert_eq!(all, ends + names().len() + carts);
         let case = making::make(1, 1);
         let (after, _) = library::run(&case);
         tally.count(&case, &after);

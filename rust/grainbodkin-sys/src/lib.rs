@@ -11,13 +11,15 @@
 /// The most bytes of stack that a call is held to below its caller, as the header's `BODKIN_STACK`.
 pub const STACK: usize = 70_656;
 
-/// A rock marker: an id, 1 to 65,535, and a crossing.
+/// A rock marker: an id, 1 to 65,535, a crossing, and a height in centimetres. It makes its crossing
+/// a rock for a cart exactly if its height is greater than the cart's clearance.
 #[repr(C)]
 #[derive(Clone, Copy, Debug, Default, PartialEq, Eq, Hash)]
 pub struct Marker {
     pub id: u16,
     pub x: u16,
     pub y: u16,
+    pub height: u16,
 }
 
 /// The new count of a list, or the refusal.
@@ -141,6 +143,7 @@ extern "C" {
         id: u16,
         x: usize,
         y: usize,
+        marker_height: u16,
     ) -> Counted;
 
     pub fn bodkin_clear(
@@ -158,6 +161,7 @@ extern "C" {
         count: usize,
         width: usize,
         height: usize,
+        clearance: u16,
         labels: *mut u8,
         labels_len: usize,
     ) -> Labelling;
@@ -168,6 +172,7 @@ extern "C" {
         count: usize,
         width: usize,
         height: usize,
+        clearance: u16,
         x: usize,
         y: usize,
         labels: *mut u8,
@@ -180,6 +185,7 @@ extern "C" {
         count: usize,
         width: usize,
         height: usize,
+        clearance: u16,
         labels: *mut u8,
         labels_len: usize,
         east: *mut u16,
@@ -198,6 +204,7 @@ extern "C" {
         count: usize,
         width: usize,
         height: usize,
+        clearance: u16,
         hx: usize,
         hy: usize,
         x: usize,
@@ -212,6 +219,7 @@ extern "C" {
         count: usize,
         width: usize,
         height: usize,
+        clearance: u16,
         hx: usize,
         hy: usize,
         x: usize,
@@ -226,6 +234,7 @@ extern "C" {
         count: usize,
         width: usize,
         height: usize,
+        clearance: u16,
         sx: usize,
         sy: usize,
         dx: usize,
@@ -242,6 +251,7 @@ extern "C" {
         count: usize,
         width: usize,
         height: usize,
+        clearance: u16,
         sx: usize,
         sy: usize,
         dx: usize,
@@ -261,6 +271,7 @@ extern "C" {
         count: usize,
         width: usize,
         height: usize,
+        clearance: u16,
         sx: usize,
         sy: usize,
         dx: usize,
@@ -277,6 +288,7 @@ extern "C" {
         count: usize,
         width: usize,
         height: usize,
+        clearance: u16,
         sx: usize,
         sy: usize,
         dx: usize,
@@ -291,6 +303,7 @@ extern "C" {
         count: usize,
         width: usize,
         height: usize,
+        clearance: u16,
         sx: usize,
         sy: usize,
         dx: usize,
@@ -313,6 +326,7 @@ extern "C" {
         count: usize,
         width: usize,
         height: usize,
+        clearance: u16,
         out: *mut u8,
         out_len: usize,
     ) -> WroteMap;

@@ -3,7 +3,7 @@
 //! prints the same of C; tests/border/run compares the two.
 use grainbodkin::{
     Map, Reason, Refusal, LARGEST, LONGEST_FILE, LONGEST_PICTURE, MARKERS, NO_DISTANCE,
-    OLD_LARGEST, SIDE, STACK,
+    OLD_LARGEST, SIDE, STACK, TALLEST,
 };
 use grainbodkin_sys::{
     Assurance, Checked, Counted, CrossingLines, Drove, Four, Homeward, Labelling, Marker, ReadMap,
@@ -27,7 +27,15 @@ macro_rules! layout {
 }
 
 fn main() {
-    layout!("marker", Marker { id: 0, x: 0, y: 0 });
+    layout!(
+        "marker",
+        Marker {
+            id: 0,
+            x: 0,
+            y: 0,
+            height: 0
+        }
+    );
     layout!(
         "counted",
         Counted {
@@ -125,7 +133,7 @@ fn main() {
         }
     );
     let largest = Map::new(SIDE, SIDE).expect("the largest map");
-    println!("side {SIDE}\nmarkers {MARKERS}\nno distance {NO_DISTANCE}");
+    println!("side {SIDE}\nmarkers {MARKERS}\nno distance {NO_DISTANCE}\ntallest {TALLEST}");
     println!("crossings {}\nroute {}", largest.crossings(), 2 * SIDE - 1);
     println!("file {LONGEST_FILE}\npicture {LONGEST_PICTURE}\nlargest {LARGEST}");
     println!("old largest {OLD_LARGEST}\nstack {STACK}");

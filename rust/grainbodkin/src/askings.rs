@@ -1,21 +1,23 @@
-//! The askings of an owned list. Each takes memory for its sheets, for so long as it needs them.
+//! The askings of an owned list, each for a cart. Each takes memory for its sheets, for so long as
+//! it needs them.
 
 use crate::{
-    Chooser, Clear, Distances, Drive, Finding, Hops, Labels, Lines, Markers, Place, Refusal,
+    Cart, Chooser, Clear, Distances, Drive, Finding, Hops, Labels, Lines, Markers, Place, Refusal,
     Region, LONGEST_FILE,
 };
 
 impl Markers {
-    /// Labels the map.
+    /// Labels the map for a cart.
     ///
     /// ```
-    /// use grainbodkin::{Map, Markers, Place};
+    /// use grainbodkin::{Cart, Map, Markers, Place};
     ///
+    /// let cart = Cart::new(20);
     /// // Rocks (0,0) and (1,1) shut (1,0) and (0,1).
     /// let mut markers = Markers::new(Map::new(8, 8)?, 2);
-    /// markers.enter(1, Place::new(0, 0))?;
-    /// markers.enter(2, Place::new(1, 1))?;
-    /// let labels = markers.label()?;
+    /// markers.enter(1, Place::new(0, 0), 30)?;
+    /// markers.enter(2, Place::new(1, 1), 30)?;
+    /// let labels = markers.label(cart)?;
     /// assert_eq!((labels.rocks(), labels.shut(), labels.groups()), (2, 2, 1));
     /// # Ok::<(), grainbodkin::Refusal>(())
     /// ```
@@ -24,9 +26,9 @@ impl Markers {
     ///
     /// Passes a refusal of the library on. A list, map and sheet of this type are never at fault,
     /// so that none of 1, 2 and 3 is given.
-    pub fn label(&self) -> Result<Labels, Refusal> {
+    pub fn label(&self, cart: Cart) -> Result<Labels, Refusal> {
         let mut sheet = self.sheet();
-        let numbers = self.lend().label(&mut sheet)?;
+        let numbers = self.lend(cart).label(&mut sheet)?;
         Ok(Labels::new(self.map(), sheet, numbers))
     }
 
@@ -37,19 +39,20 @@ impl Markers {
     /// Refuses 4.
     ///
     /// ```
-    /// use grainbodkin::{Clear, Map, Markers, Place, NO_DISTANCE};
+    /// use grainbodkin::{Cart, Clear, Map, Markers, Place, NO_DISTANCE};
     ///
+    /// let cart = Cart::new(20);
     /// let mut markers = Markers::new(Map::new(8, 8)?, 3);
     /// for (id, x, y) in [(1, 3, 2), (2, 4, 3), (3, 5, 2)] {
-    ///     markers.enter(id, Place::new(x, y))?;
+    ///     markers.enter(id, Place::new(x, y), 30)?;
     /// }
-    /// assert_eq!(markers.distances(Place::new(0, 2))?, Clear::from([3, NO_DISTANCE, NO_DISTANCE, NO_DISTANCE]));
-    /// assert_eq!(markers.distances(Place::new(4, 0))?.north, Some(2));
-    /// assert_eq!(markers.distances(Place::new(4, 2))?, Clear::from([0; 4]));
+    /// assert_eq!(markers.distances(cart, Place::new(0, 2))?, Clear::from([3, NO_DISTANCE, NO_DISTANCE, NO_DISTANCE]));
+    /// assert_eq!(markers.distances(cart, Place::new(4, 0))?.north, Some(2));
+    /// assert_eq!(markers.distances(cart, Place::new(4, 2))?, Clear::from([0; 4]));
     /// # Ok::<(), grainbodkin::Refusal>(())
     /// ```
-    pub fn distances(&self, place: Place) -> Result<Clear, Refusal> {
-        self.lend().distances(place, &mut self.sheet())
+    pub fn distances(&self, cart: Cart, place: Place) -> Result<Clear, Refusal> {
+        self.lend(cart).distances(place, &mut self.sheet())
     }
 
     /// The clear distances of the whole map. [`Distances`] has an example.
@@ -58,10 +61,10 @@ impl Markers {
     ///
     /// Passes a refusal of the library on. A list, map and sheet of this type are never at fault,
     /// so that none of 1, 2 and 3 is given.
-    pub fn measure(&self) -> Result<Distances, Refusal> {
+    pub fn measure(&self, cart: Cart) -> Result<Distances, Refusal> {
         let mut sheets = [0; 4].map(|zero| vec![zero; self.map().crossings()]);
         let [east, south, west, north] = &mut sheets;
-        self.lend()
+        self.lend(cart)
             .measure(&mut self.sheet(), east, south, west, north)?;
         Ok(Distances::new(self.map(), sheets))
     }
@@ -75,20 +78,21 @@ impl Markers {
     /// Refuses 4 or 8.
     ///
     /// ```
-    /// use grainbodkin::{Markers, Place, Refusal};
+    /// use grainbodkin::{Cart, Markers, Place, Refusal};
     ///
+    /// let cart = Cart::new(20);
     /// // Rocks (3,2), (4,3), (5,2).
     /// let file = b"P1 8 8 00000000 00000000 00000000 00000000 00001000 00010100 00000000 00000000";
     /// let markers = Markers::read(file, 3)?;
     /// let home = Place::new(0, 2);
-    /// assert!(markers.assured(home, Place::new(2, 5))?);
-    /// assert!(markers.assured(home, Place::new(3, 5))?);
-    /// assert!(!markers.assured(home, Place::new(4, 5))?);
-    /// assert_eq!(markers.assured(home, Place::new(4, 2)), Err(Refusal::EndClosed));
+    /// assert!(markers.assured(cart, home, Place::new(2, 5))?);
+    /// assert!(markers.assured(cart, home, Place::new(3, 5))?);
+    /// assert!(!markers.assured(cart, home, Place::new(4, 5))?);
+    /// assert_eq!(markers.assured(cart, home, Place::new(4, 2)), Err(Refusal::EndClosed));
     /// # Ok::<(), Refusal>(())
     /// ```
-    pub fn assured(&self, home: Place, place: Place) -> Result<bool, Refusal> {
-        self.lend().assured(home, place, &mut self.sheet())
+    pub fn assured(&self, cart: Cart, home: Place, place: Place) -> Result<bool, Refusal> {
+        self.lend(cart).assured(home, place, &mut self.sheet())
     }
 
     /// Every permitted hop from a place towards home. [`Hops`] has an example.
@@ -96,8 +100,8 @@ impl Markers {
     /// # Errors
     ///
     /// Refuses 4, 8 or 11.
-    pub fn hop(&self, home: Place, place: Place) -> Result<Hops, Refusal> {
-        self.lend().hop(home, place, &mut self.sheet())
+    pub fn hop(&self, cart: Cart, home: Place, place: Place) -> Result<Hops, Refusal> {
+        self.lend(cart).hop(home, place, &mut self.sheet())
     }
 
     /// The region of shortest drives from s to d, for every open pair, assured or not.
@@ -107,21 +111,23 @@ impl Markers {
     /// Refuses 4, 8 or 9.
     ///
     /// ```
-    /// use grainbodkin::{Chooser, Map, Markers, Place, Refusal};
+    /// use grainbodkin::{Cart, Chooser, Map, Markers, Place, Refusal};
     ///
+    /// let cart = Cart::new(20);
     /// let mut markers = Markers::new(Map::new(8, 8)?, 3);
     /// for (id, x, y) in [(1, 3, 2), (2, 4, 3), (3, 5, 2)] {
-    ///     markers.enter(id, Place::new(x, y))?;
+    ///     markers.enter(id, Place::new(x, y), 30)?;
     /// }
     /// let s = Place::new(0, 2);
-    /// assert_eq!(markers.region(s, Place::new(7, 2)), Err(Refusal::NoDrive));
-    /// assert!(markers.region(s, Place::new(7, 4))?.contains(Place::new(0, 4)));
-    /// assert_eq!(markers.drive(s, Place::new(7, 4), &mut Chooser(0))?.hops(), 9);
+    /// assert_eq!(markers.region(cart, s, Place::new(7, 2)), Err(Refusal::NoDrive));
+    /// assert!(markers.region(cart, s, Place::new(7, 4))?.contains(Place::new(0, 4)));
+    /// assert_eq!(markers.drive(cart, s, Place::new(7, 4), &mut Chooser(0))?.hops(), 9);
     /// # Ok::<(), Refusal>(())
     /// ```
-    pub fn region(&self, s: Place, d: Place) -> Result<Region, Refusal> {
+    pub fn region(&self, cart: Cart, s: Place, d: Place) -> Result<Region, Refusal> {
         let mut region = self.sheet();
-        self.lend().region(s, d, &mut self.sheet(), &mut region)?;
+        self.lend(cart)
+            .region(s, d, &mut self.sheet(), &mut region)?;
         Ok(Region::new(self.map(), region))
     }
 
@@ -130,10 +136,16 @@ impl Markers {
     /// # Errors
     ///
     /// Refuses 4, 8 or 9; then the chooser is unchanged.
-    pub fn drive(&self, s: Place, d: Place, chooser: &mut Chooser) -> Result<Drive, Refusal> {
+    pub fn drive(
+        &self,
+        cart: Cart,
+        s: Place,
+        d: Place,
+        chooser: &mut Chooser,
+    ) -> Result<Drive, Refusal> {
         // No shortest drive has more crossings than a row and a column together.
         let mut route = vec![0; self.map().width() + self.map().height()];
-        let length = self.drive_into(s, d, &mut route, chooser)?.len();
+        let length = self.drive_into(cart, s, d, &mut route, chooser)?.len();
         route.truncate(length);
         Ok(Drive::new(self.map(), route))
     }
@@ -146,56 +158,59 @@ impl Markers {
     /// Refuses 4, 8, 9 or 10; then route and chooser are unchanged.
     ///
     /// ```
-    /// use grainbodkin::{Chooser, Map, Markers, Place, Refusal};
+    /// use grainbodkin::{Cart, Chooser, Map, Markers, Place, Refusal};
     ///
+    /// let cart = Cart::new(20);
     /// // On a map 1 by 1 without rocks, (0,0) to itself is a drive of one crossing; with a rock
     /// // it is refused.
     /// let mut markers = Markers::new(Map::new(1, 1)?, 1);
     /// let here = Place::new(0, 0);
     /// let (mut route, mut chooser) = ([9, 9], Chooser(7));
-    /// assert_eq!(markers.drive_into(here, here, &mut route, &mut chooser)?, [0]);
+    /// assert_eq!(markers.drive_into(cart, here, here, &mut route, &mut chooser)?, [0]);
     /// assert_eq!((route, chooser), ([0, 9], Chooser(7)));
     ///
-    /// markers.enter(1, here)?;
-    /// let refused = markers.drive_into(here, here, &mut route, &mut chooser);
+    /// markers.enter(1, here, 30)?;
+    /// let refused = markers.drive_into(cart, here, here, &mut route, &mut chooser);
     /// assert_eq!(refused, Err(Refusal::EndClosed));
     /// # Ok::<(), Refusal>(())
     /// ```
     pub fn drive_into<'r>(
         &self,
+        cart: Cart,
         s: Place,
         d: Place,
         route: &'r mut [u16],
         chooser: &mut Chooser,
     ) -> Result<&'r mut [u16], Refusal> {
         let (mut labels, mut region) = (self.sheet(), self.sheet());
-        self.lend()
+        self.lend(cart)
             .drive(s, d, &mut labels, &mut region, route, chooser)
     }
 
     /// What is found of a drive that was drawn by hand, a list of crossing numbers: accepted
     /// exactly if it is a shortest drive from s to d, otherwise the position of the first crossing
-    /// at fault and why. Every [`Drive`] is accepted over the same markers. [`Finding`] has an
-    /// example.
+    /// at fault and why. Every [`Drive`] is accepted over the same markers, for its own cart and for
+    /// every cart with more clearance. [`Finding`] has an example.
     ///
     /// # Errors
     ///
     /// Refuses 4 or 8.
     ///
     /// ```
-    /// use grainbodkin::{Chooser, Finding, Map, Markers, Place};
+    /// use grainbodkin::{Cart, Chooser, Finding, Map, Markers, Place};
     ///
+    /// let cart = Cart::new(20);
     /// let mut markers = Markers::new(Map::new(8, 8)?, 3);
     /// for (id, x, y) in [(1, 3, 2), (2, 4, 3), (3, 5, 2)] {
-    ///     markers.enter(id, Place::new(x, y))?;
+    ///     markers.enter(id, Place::new(x, y), 30)?;
     /// }
     /// let (s, d) = (Place::new(0, 2), Place::new(7, 4));
-    /// let drive = markers.drive(s, d, &mut Chooser(1))?;
-    /// assert_eq!(markers.check(s, d, drive.numbers())?, Finding::Accepted);
+    /// let drive = markers.drive(cart, s, d, &mut Chooser(1))?;
+    /// assert_eq!(markers.check(cart, s, d, drive.numbers())?, Finding::Accepted);
     /// # Ok::<(), grainbodkin::Refusal>(())
     /// ```
-    pub fn check(&self, s: Place, d: Place, drawn: &[u16]) -> Result<Finding, Refusal> {
-        self.lend().check(s, d, &mut self.sheet(), drawn)
+    pub fn check(&self, cart: Cart, s: Place, d: Place, drawn: &[u16]) -> Result<Finding, Refusal> {
+        self.lend(cart).check(s, d, &mut self.sheet(), drawn)
     }
 
     /// The crossing lines of s and d, or that there are none. [`Lines`] has an example.
@@ -203,8 +218,8 @@ impl Markers {
     /// # Errors
     ///
     /// Refuses 4 or 8.
-    pub fn lines(&self, s: Place, d: Place) -> Result<Option<Lines>, Refusal> {
-        self.lend().lines(s, d, &mut self.sheet())
+    pub fn lines(&self, cart: Cart, s: Place, d: Place) -> Result<Option<Lines>, Refusal> {
+        self.lend(cart).lines(s, d, &mut self.sheet())
     }
 
     /// The drive from s to d by way of the crossing where their crossing lines meet, made by the
@@ -215,46 +230,55 @@ impl Markers {
     /// Refuses 4, 8 or 19; then the chooser is unchanged.
     ///
     /// ```
-    /// use grainbodkin::{Chooser, Finding, Map, Markers, Place};
+    /// use grainbodkin::{Cart, Chooser, Finding, Map, Markers, Place};
     ///
+    /// let cart = Cart::new(20);
     /// let mut markers = Markers::new(Map::new(8, 8)?, 1);
-    /// markers.enter(1, Place::new(1, 0))?;
+    /// markers.enter(1, Place::new(1, 0), 30)?;
     /// let (s, d) = (Place::new(0, 0), Place::new(4, 3));
-    /// let lines = markers.lines(s, d)?.expect("there are lines");
-    /// let drive = markers.lines_drive(s, d, &mut Chooser(0))?;
+    /// let lines = markers.lines(cart, s, d)?.expect("there are lines");
+    /// let drive = markers.lines_drive(cart, s, d, &mut Chooser(0))?;
     /// assert!(drive.places().any(|place| place == lines.meeting()));
-    /// assert_eq!(markers.check(s, d, drive.numbers())?, Finding::Accepted);
+    /// assert_eq!(markers.check(cart, s, d, drive.numbers())?, Finding::Accepted);
     /// # Ok::<(), grainbodkin::Refusal>(())
     /// ```
-    pub fn lines_drive(&self, s: Place, d: Place, chooser: &mut Chooser) -> Result<Drive, Refusal> {
+    pub fn lines_drive(
+        &self,
+        cart: Cart,
+        s: Place,
+        d: Place,
+        chooser: &mut Chooser,
+    ) -> Result<Drive, Refusal> {
         // No shortest drive has more crossings than a row and a column together.
         let mut route = vec![0; self.map().width() + self.map().height()];
         let (mut labels, mut region) = (self.sheet(), self.sheet());
-        let list = self.lend();
+        let list = self.lend(cart);
         let filled = list.lines_drive(s, d, &mut labels, &mut region, &mut route, chooser)?;
         let length = filled.len();
         route.truncate(length);
         Ok(Drive::new(self.map(), route))
     }
 
-    /// Writes the list as a PBM map, P4. Reading it gives the same crossings.
+    /// Writes the cart's rocks as a PBM map, P4. Reading it gives the same crossings, with markers
+    /// as high as can be: a file keeps no heights.
     ///
     /// # Errors
     ///
-    /// Refuses 16.
+    /// Refuses 16: of two markers on one crossing, whatever their heights.
     ///
     /// ```
-    /// use grainbodkin::Markers;
+    /// use grainbodkin::{Cart, Markers};
     ///
+    /// let cart = Cart::new(20);
     /// let markers = Markers::read(b"P1 4 3 0010 0100 0000", 2)?;
-    /// let file = markers.write()?;
+    /// let file = markers.write(cart)?;
     /// assert_eq!(file, b"P4\n4 3\n\x20\x40\x00");
     /// assert_eq!(Markers::read(&file, 2)?, markers);
     /// # Ok::<(), grainbodkin::Refusal>(())
     /// ```
-    pub fn write(&self) -> Result<Vec<u8>, Refusal> {
+    pub fn write(&self, cart: Cart) -> Result<Vec<u8>, Refusal> {
         let mut out = vec![0; LONGEST_FILE];
-        let bytes = self.lend().write(&mut out)?;
+        let bytes = self.lend(cart).write(&mut out)?;
         out.truncate(bytes);
         Ok(out)
     }

@@ -31,6 +31,7 @@ const _: () = {
     assert!(offset_of!(Marker, id) == offset_of!(sys::Marker, id));
     assert!(offset_of!(Marker, x) == offset_of!(sys::Marker, x));
     assert!(offset_of!(Marker, y) == offset_of!(sys::Marker, y));
+    assert!(offset_of!(Marker, height) == offset_of!(sys::Marker, height));
 };
 
 fn pointer(slots: &[Marker]) -> *const sys::Marker {
@@ -41,7 +42,7 @@ fn pointer_mut(slots: &mut [Marker]) -> *mut sys::Marker {
     slots.as_mut_ptr().cast()
 }
 
-pub(crate) fn enter(list: &mut MarkersMut<'_>, id: u16, place: Place) -> sys::Counted {
+pub(crate) fn enter(list: &mut MarkersMut<'_>, id: u16, place: Place, height: u16) -> sys::Counted {
     // SAFETY: pointer and length are those of `slots`, which is lent by `&mut`; nothing else is
     // lent.
     unsafe {
@@ -54,6 +55,7 @@ pub(crate) fn enter(list: &mut MarkersMut<'_>, id: u16, place: Place) -> sys::Co
             id,
             place.x,
             place.y,
+            height,
         )
     }
 }
@@ -83,6 +85,7 @@ pub(crate) fn label(list: MarkersRef<'_>, labels: &mut [u8]) -> sys::Labelling {
             list.count,
             list.width,
             list.height,
+            list.cart.clearance,
             labels.as_mut_ptr(),
             labels.len(),
         )
@@ -99,6 +102,7 @@ pub(crate) fn distances(list: MarkersRef<'_>, place: Place, labels: &mut [u8]) -
             list.count,
             list.width,
             list.height,
+            list.cart.clearance,
             place.x,
             place.y,
             labels.as_mut_ptr(),
@@ -118,6 +122,7 @@ pub(crate) fn measure(list: MarkersRef<'_>, labels: &mut [u8], sheets: [&mut [u1
             list.count,
             list.width,
             list.height,
+            list.cart.clearance,
             labels.as_mut_ptr(),
             labels.len(),
             east.as_mut_ptr(),
@@ -147,6 +152,7 @@ pub(crate) fn assured(
             list.count,
             list.width,
             list.height,
+            list.cart.clearance,
             home.x,
             home.y,
             place.x,
@@ -172,6 +178,7 @@ pub(crate) fn hop(
             list.count,
             list.width,
             list.height,
+            list.cart.clearance,
             home.x,
             home.y,
             place.x,
@@ -198,6 +205,7 @@ pub(crate) fn region(
             list.count,
             list.width,
             list.height,
+            list.cart.clearance,
             s.x,
             s.y,
             d.x,
@@ -228,6 +236,7 @@ pub(crate) fn drive(
             list.count,
             list.width,
             list.height,
+            list.cart.clearance,
             s.x,
             s.y,
             d.x,
@@ -259,6 +268,7 @@ pub(crate) fn check(
             list.count,
             list.width,
             list.height,
+            list.cart.clearance,
             s.x,
             s.y,
             d.x,
@@ -286,6 +296,7 @@ pub(crate) fn lines(
             list.count,
             list.width,
             list.height,
+            list.cart.clearance,
             s.x,
             s.y,
             d.x,
@@ -314,6 +325,7 @@ pub(crate) fn lines_drive(
             list.count,
             list.width,
             list.height,
+            list.cart.clearance,
             s.x,
             s.y,
             d.x,
@@ -345,6 +357,7 @@ pub(crate) fn write(list: MarkersRef<'_>, out: &mut [u8]) -> sys::WroteMap {
             list.count,
             list.width,
             list.height,
+            list.cart.clearance,
             out.as_mut_ptr(),
             out.len(),
         )

@@ -5,13 +5,14 @@ use std::fmt;
 /// What is found of a drawn list of crossing numbers.
 ///
 /// ```
-/// use grainbodkin::{Fault, Finding, Map, Markers, Place, Reason};
+/// use grainbodkin::{Cart, Fault, Finding, Map, Markers, Place, Reason};
 ///
+/// let cart = Cart::new(20);
 /// let markers = Markers::new(Map::new(8, 8)?, 0);
 /// let (s, d) = (Place::new(0, 0), Place::new(2, 1));
-/// assert_eq!(markers.check(s, d, &[0, 1, 2, 10])?, Finding::Accepted);
+/// assert_eq!(markers.check(cart, s, d, &[0, 1, 2, 10])?, Finding::Accepted);
 /// let fault = Fault { position: 2, reason: Reason::NotNearer };
-/// assert_eq!(markers.check(s, d, &[0, 1, 0])?, Finding::AtFault(fault));
+/// assert_eq!(markers.check(cart, s, d, &[0, 1, 0])?, Finding::AtFault(fault));
 /// assert_eq!(fault.to_string(), "at position 2: not nearer d");
 /// # Ok::<(), grainbodkin::Refusal>(())
 /// ```

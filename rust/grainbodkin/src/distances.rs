@@ -56,16 +56,17 @@ impl From<Clear> for [u16; 4] {
 /// The clear distances of a whole map: four sheets of one sixteen-bit number a crossing.
 ///
 /// ```
-/// use grainbodkin::{Clear, Map, Markers, Place, NO_DISTANCE};
+/// use grainbodkin::{Cart, Clear, Map, Markers, Place, NO_DISTANCE};
 ///
+/// let cart = Cart::new(20);
 /// // Without rocks each distance is none.
 /// let mut markers = Markers::new(Map::new(8, 8)?, 4);
 /// let none = [NO_DISTANCE; 64];
-/// let distances = markers.measure()?;
+/// let distances = markers.measure(cart)?;
 /// assert_eq!([distances.east(), distances.south(), distances.west(), distances.north()], [none; 4]);
 ///
-/// markers.enter(1, Place::new(3, 2))?;
-/// let distances = markers.measure()?;
+/// markers.enter(1, Place::new(3, 2), 30)?;
+/// let distances = markers.measure(cart)?;
 /// assert_eq!(distances.at(Place::new(0, 2)), Some(Clear { east: Some(3), south: None, west: None, north: None }));
 /// # Ok::<(), grainbodkin::Refusal>(())
 /// ```

@@ -16,13 +16,14 @@ pub struct Chooser(
 /// The region: the set of crossings on at least one shortest drive.
 ///
 /// ```
-/// use grainbodkin::{Map, Markers, Place};
+/// use grainbodkin::{Cart, Map, Markers, Place};
 ///
+/// let cart = Cart::new(20);
 /// let mut markers = Markers::new(Map::new(8, 8)?, 3);
 /// for (id, x, y) in [(1, 3, 2), (2, 4, 3), (3, 5, 2)] {
-///     markers.enter(id, Place::new(x, y))?;
+///     markers.enter(id, Place::new(x, y), 30)?;
 /// }
-/// let region = markers.region(Place::new(0, 0), Place::new(7, 3))?;
+/// let region = markers.region(cart, Place::new(0, 0), Place::new(7, 3))?;
 /// assert_eq!(region.len(), 20);
 /// assert!(region.contains(Place::new(6, 2)));
 /// assert!(!region.contains(Place::new(2, 3)));
@@ -71,11 +72,12 @@ impl Region {
 /// hops as their distance.
 ///
 /// ```
-/// use grainbodkin::{Chooser, Map, Markers, Place};
+/// use grainbodkin::{Cart, Chooser, Map, Markers, Place};
 ///
+/// let cart = Cart::new(20);
 /// let markers = Markers::new(Map::new(8, 8)?, 0);
 /// let mut chooser = Chooser(0);
-/// let drive = markers.drive(Place::new(0, 0), Place::new(2, 1), &mut chooser)?;
+/// let drive = markers.drive(cart, Place::new(0, 0), Place::new(2, 1), &mut chooser)?;
 /// assert_eq!(drive.numbers(), [0, 1, 2, 10]);
 /// assert_eq!(drive.hops(), 3);
 /// assert_eq!(drive.places().last(), Some(Place::new(2, 1)));

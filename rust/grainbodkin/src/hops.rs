@@ -5,17 +5,19 @@ use crate::Place;
 /// Every permitted hop homeward: to an open neighbour one hop nearer home.
 ///
 /// Whichever of them a cart takes, again and again, it is home after exactly the east-west plus
-/// north-south distance, as long as the markers stay the same on its way.
+/// north-south distance, as long as the markers stay the same on its way and it is the cart that
+/// asks.
 ///
 /// ```
-/// use grainbodkin::{Hops, Map, Markers, Place};
+/// use grainbodkin::{Cart, Hops, Map, Markers, Place};
 ///
+/// let cart = Cart::new(20);
 /// let markers = Markers::new(Map::new(8, 8)?, 0);
 /// let home = Place::new(0, 2);
 /// let two = Hops::Two { east_west: Place::new(1, 5), north_south: Place::new(2, 4) };
-/// assert_eq!(markers.hop(home, Place::new(2, 5))?, two);
-/// assert_eq!(markers.hop(home, Place::new(2, 2))?, Hops::One(Place::new(1, 2)));
-/// assert_eq!(markers.hop(home, home)?, Hops::There);
+/// assert_eq!(markers.hop(cart, home, Place::new(2, 5))?, two);
+/// assert_eq!(markers.hop(cart, home, Place::new(2, 2))?, Hops::One(Place::new(1, 2)));
+/// assert_eq!(markers.hop(cart, home, home)?, Hops::There);
 /// # Ok::<(), grainbodkin::Refusal>(())
 /// ```
 #[derive(Clone, Copy, Debug, PartialEq, Eq, Hash)]

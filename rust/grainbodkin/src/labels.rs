@@ -4,20 +4,21 @@ use std::fmt::{self, Write};
 
 use crate::{Map, Place};
 
-/// What a crossing is.
+/// What a crossing is, for one cart.
 ///
 /// Closed crossings are the smallest set that holds all rocks and every crossing with two or more
 /// closed neighbours.
 ///
 /// ```
-/// use grainbodkin::{Label, Map, Markers, Place};
+/// use grainbodkin::{Cart, Label, Map, Markers, Place};
 ///
+/// let cart = Cart::new(20);
 /// // Rocks (1,1), (1,2), (2,1): (2,2) is shut, nothing else.
 /// let mut markers = Markers::new(Map::new(8, 8)?, 3);
 /// for (id, x, y) in [(1, 1, 1), (2, 1, 2), (3, 2, 1)] {
-///     markers.enter(id, Place::new(x, y))?;
+///     markers.enter(id, Place::new(x, y), 30)?;
 /// }
-/// let labels = markers.label()?;
+/// let labels = markers.label(cart)?;
 /// assert_eq!(labels.label(Place::new(2, 2)), Some(Label::Shut));
 /// assert_eq!(labels.shut(), 1);
 /// # Ok::<(), grainbodkin::Refusal>(())
@@ -27,7 +28,7 @@ use crate::{Map, Place};
 pub enum Label {
     /// Not closed.
     Open = 0,
-    /// At least one marker stands on it.
+    /// At least one marker stands on it that is higher than the cart's clearance.
     Rock = 1,
     /// Closed without a rock.
     Shut = 2,
@@ -67,11 +68,11 @@ impl Label {
 /// The numbers that labelling hands back.
 ///
 /// ```
-/// use grainbodkin::{Labelling, Marker, MarkersRef};
+/// use grainbodkin::{Cart, Labelling, Marker, MarkersRef};
 ///
 /// // Rocks (1,1) and (4,1): nothing shut, two groups.
-/// let slots = [Marker::new(1, 1, 1), Marker::new(2, 4, 1)];
-/// let list = MarkersRef { slots: &slots, count: 2, width: 8, height: 8 };
+/// let slots = [Marker::new(1, 1, 1, 30), Marker::new(2, 4, 1, 30)];
+/// let list = MarkersRef { slots: &slots, count: 2, width: 8, height: 8, cart: Cart::LOWEST };
 /// assert_eq!(list.label(&mut [0; 64])?, Labelling { rocks: 2, shut: 0, groups: 2 });
 /// # Ok::<(), grainbodkin::Refusal>(())
 /// ```
@@ -85,16 +86,18 @@ pub struct Labelling {
     pub groups: usize,
 }
 
-/// The labels of a map, with the numbers of rocks' crossings, shut crossings and groups.
+/// The labels of a map for one cart, with the numbers of rocks' crossings, shut crossings and
+/// groups.
 ///
 /// It is displayed as the labelling program prints it: width, height and the three numbers, then
 /// the rows from the north.
 ///
 /// ```
-/// use grainbodkin::{Label, Markers, Place};
+/// use grainbodkin::{Cart, Label, Markers, Place};
 ///
+/// let cart = Cart::new(20);
 /// let markers = Markers::read(b"P1\n4 3\n0010\n0100\n0000\n", 10)?;
-/// let labels = markers.label()?;
+/// let labels = markers.label(cart)?;
 /// assert_eq!(labels.label(Place::new(1, 1)), Some(Label::Rock));
 /// assert_eq!(labels.label(Place::new(2, 1)), Some(Label::Shut));
 /// assert_eq!(labels.label(Place::new(4, 1)), None);
@@ -151,10 +154,11 @@ impl Labels {
     /// The rows from the north, each from the west.
     ///
     /// ```
-    /// use grainbodkin::{Label, Markers};
+    /// use grainbodkin::{Cart, Label, Markers};
     ///
+    /// let cart = Cart::new(20);
     /// let markers = Markers::read(b"P1 3 2 010 000", 1)?;
-    /// let labels = markers.label()?;
+    /// let labels = markers.label(cart)?;
     /// let rows = labels.rows().map(|row| row.map(Label::sign).collect::<String>());
     /// assert!(rows.eq([".#.", "..."]));
     /// # Ok::<(), grainbodkin::Refusal>(())

@@ -1,8 +1,11 @@
 //! The calls over a list that the caller lends: the borrowed forms.
 
-use crate::{calls, Chooser, Clear, Finding, Hops, Labelling, Lines, Map, Marker, Place, Refusal};
+use crate::{
+    calls, Cart, Chooser, Clear, Finding, Hops, Labelling, Lines, Map, Marker, Place, Refusal,
+};
 
-/// A lent list of markers with its count, and the size of the map that it is for.
+/// A lent list of markers with its count, the size of the map that it is for, and the cart that
+/// asks.
 ///
 /// Every value is allowed in every field: a call answers by the lowest refusal that applies, or
 /// succeeds. Sheets, routes and outputs are lent by the caller too, so nothing is copied and
@@ -12,15 +15,19 @@ use crate::{calls, Chooser, Clear, Finding, Hops, Labelling, Lines, Map, Marker,
 /// Slots past the count are never read. No call on this type changes a slot.
 ///
 /// ```
-/// use grainbodkin::{Label, Marker, MarkersRef, Place, Refusal};
+/// use grainbodkin::{Cart, Label, Marker, MarkersRef, Place, Refusal};
 ///
 /// // Rocks (1,1) and (3,1) shut (2,1).
-/// let slots = [Marker::new(1, 1, 1), Marker::new(2, 3, 1), Marker::default()];
-/// let list = MarkersRef { slots: &slots, count: 2, width: 8, height: 8 };
+/// let slots = [Marker::new(1, 1, 1, 30), Marker::new(2, 3, 1, 20), Marker::default()];
+/// let list = MarkersRef { slots: &slots, count: 2, width: 8, height: 8, cart: Cart::LOWEST };
 /// let mut labels = [0; 64];
 /// let numbers = list.label(&mut labels)?;
 /// assert_eq!((numbers.rocks, numbers.shut, numbers.groups), (2, 1, 1));
 /// assert_eq!(Label::from_byte(labels[8 + 2]), Some(Label::Shut));
+///
+/// // The same list, for a cart that passes over the lower stone.
+/// let higher = MarkersRef { cart: Cart::new(20), ..list };
+/// assert_eq!(higher.label(&mut labels)?.shut, 0);
 ///
 /// // A refusal changes no byte.
 /// let mut short = [7; 63];
@@ -38,6 +45,8 @@ pub struct MarkersRef<'a> {
     pub width: usize,
     /// The map's height.
     pub height: usize,
+    /// The cart that asks, whose rocks these are.
+    pub cart: Cart,
 }
 
 impl MarkersRef<'_> {
@@ -102,10 +111,10 @@ impl MarkersRef<'_> {
     /// labels.
     ///
     /// ```
-    /// use grainbodkin::{Marker, MarkersRef, Place, Refusal};
+    /// use grainbodkin::{Cart, Marker, MarkersRef, Place, Refusal};
     ///
-    /// let slots = [Marker::new(1, 3, 2), Marker::new(2, 4, 3), Marker::new(3, 5, 2)];
-    /// let list = MarkersRef { slots: &slots, count: 3, width: 8, height: 8 };
+    /// let slots = [Marker::new(1, 3, 2, 30), Marker::new(2, 4, 3, 30), Marker::new(3, 5, 2, 30)];
+    /// let list = MarkersRef { slots: &slots, count: 3, width: 8, height: 8, cart: Cart::LOWEST };
     /// let mut labels = [9; 64];
     ///
     /// // Home (0,2) is not assured for (4,5): the hop is refused, and the sheet holds the labels
@@ -149,9 +158,9 @@ impl MarkersRef<'_> {
     /// are unchanged.
     ///
     /// ```
-    /// use grainbodkin::{Chooser, MarkersRef, Place};
+    /// use grainbodkin::{Cart, Chooser, MarkersRef, Place};
     ///
-    /// let list = MarkersRef { slots: &[], count: 0, width: 8, height: 8 };
+    /// let list = MarkersRef { slots: &[], count: 0, width: 8, height: 8, cart: Cart::LOWEST };
     /// let (mut labels, mut region) = ([0; 64], [0; 64]);
     /// let mut route = [9; 6];
     /// let mut chooser = Chooser(0);
@@ -183,9 +192,9 @@ impl MarkersRef<'_> {
     /// Refuses 1, 2, 3 or 4, and then no byte changes; or 8, and then `labels` holds the labels.
     ///
     /// ```
-    /// use grainbodkin::{Fault, Finding, MarkersRef, Place, Reason};
+    /// use grainbodkin::{Cart, Fault, Finding, MarkersRef, Place, Reason};
     ///
-    /// let list = MarkersRef { slots: &[], count: 0, width: 8, height: 8 };
+    /// let list = MarkersRef { slots: &[], count: 0, width: 8, height: 8, cart: Cart::LOWEST };
     /// let (s, d) = (Place::new(7, 0), Place::new(0, 1));
     /// // Number 8 is one more than 7, but on the other side of the map.
     /// let fault = Fault { position: 1, reason: Reason::NotANeighbour };
@@ -229,10 +238,10 @@ impl MarkersRef<'_> {
     /// and chooser are unchanged.
     ///
     /// ```
-    /// use grainbodkin::{Chooser, Marker, MarkersRef, Place, Refusal};
+    /// use grainbodkin::{Cart, Chooser, Marker, MarkersRef, Place, Refusal};
     ///
-    /// let slots = [Marker::new(1, 1, 0)];
-    /// let list = MarkersRef { slots: &slots, count: 1, width: 8, height: 8 };
+    /// let slots = [Marker::new(1, 1, 0, 30)];
+    /// let list = MarkersRef { slots: &slots, count: 1, width: 8, height: 8, cart: Cart::LOWEST };
     /// let (mut labels, mut region) = ([0; 64], [9; 64]);
     /// let mut route = [9; 6];
     /// let mut chooser = Chooser(7);
@@ -262,18 +271,18 @@ impl MarkersRef<'_> {
         Refusal::or(answer.refusal, &mut route[..answer.length])
     }
 
-    /// Writes the list as a PBM map, P4, to the front of `out`, and hands back the number of bytes
-    /// written. [`Map::file_len`] has that number beforehand. Bytes past the end stay.
+    /// Writes the cart's rocks as a PBM map, P4, to the front of `out`, and hands back the number of
+    /// bytes written. [`Map::file_len`] has that number beforehand. Bytes past the end stay.
     ///
     /// # Errors
     ///
-    /// Refuses 1, 3, 16 or 17; then no byte changes.
+    /// Refuses 1, 3, 16 or 17; then no byte changes. 16 looks at all markers, low ones included.
     ///
     /// ```
-    /// use grainbodkin::{Marker, MarkersRef};
+    /// use grainbodkin::{Cart, Marker, MarkersRef};
     ///
-    /// let slots = [Marker::new(1, 0, 1)];
-    /// let list = MarkersRef { slots: &slots, count: 1, width: 3, height: 2 };
+    /// let slots = [Marker::new(1, 0, 1, 30), Marker::new(2, 2, 0, 10)];
+    /// let list = MarkersRef { slots: &slots, count: 2, width: 3, height: 2, cart: Cart::new(20) };
     /// let mut out = [b'-'; 12];
     /// assert_eq!(list.write(&mut out), Ok(9));
     /// assert_eq!(&out, b"P4\n3 2\n\x80\x00---");
@@ -294,11 +303,11 @@ impl MarkersRef<'_> {
 ///
 /// let mut slots = [Marker::default(); 2];
 /// let mut list = MarkersMut { slots: &mut slots, count: 0, width: 8, height: 8 };
-/// assert_eq!(list.enter(7, Place::new(1, 1)), Ok(1));
-/// assert_eq!(list.enter(5, Place::new(1, 1)), Ok(2));
-/// assert_eq!(list.enter(6, Place::new(2, 2)), Err(Refusal::NoSlot));
+/// assert_eq!(list.enter(7, Place::new(1, 1), 30), Ok(1));
+/// assert_eq!(list.enter(5, Place::new(1, 1), 10), Ok(2));
+/// assert_eq!(list.enter(6, Place::new(2, 2), 30), Err(Refusal::NoSlot));
 /// assert_eq!(list.clear(5), Ok(1));
-/// assert_eq!(slots, [Marker::new(7, 1, 1), Marker::default()]);
+/// assert_eq!(slots, [Marker::new(7, 1, 1, 30), Marker::default()]);
 /// ```
 #[derive(Debug)]
 pub struct MarkersMut<'a> {
@@ -314,7 +323,7 @@ pub struct MarkersMut<'a> {
 
 impl<'a> MarkersMut<'a> {
     /// Reads a PBM map, P1 or P4. Its rocks become markers with ids 1, 2, 3 and on, in raster
-    /// order, in the first slots; other slots stay.
+    /// order, each of height [`TALLEST`](crate::TALLEST), in the first slots; other slots stay.
     ///
     /// # Errors
     ///
@@ -322,12 +331,13 @@ impl<'a> MarkersMut<'a> {
     /// 15, then 7; no slot changes then.
     ///
     /// ```
-    /// use grainbodkin::{Marker, MarkersMut};
+    /// use grainbodkin::{Marker, MarkersMut, TALLEST};
     ///
-    /// let mut slots = [Marker::new(9, 9, 9); 3];
+    /// let other = Marker::new(9, 9, 9, 9);
+    /// let mut slots = [other; 3];
     /// let list = MarkersMut::read(b"P1 4 3 0010 0100 0000", &mut slots)?;
     /// assert_eq!((list.width, list.height, list.count), (4, 3, 2));
-    /// assert_eq!(slots, [Marker::new(1, 2, 2), Marker::new(2, 1, 1), Marker::new(9, 9, 9)]);
+    /// assert_eq!(slots, [Marker::new(1, 2, 2, TALLEST), Marker::new(2, 1, 1, TALLEST), other]);
     /// # Ok::<(), grainbodkin::Refusal>(())
     /// ```
     pub fn read(file: &[u8], slots: &'a mut [Marker]) -> Result<MarkersMut<'a>, Refusal> {
@@ -341,14 +351,14 @@ impl<'a> MarkersMut<'a> {
         Refusal::or(answer.refusal, list)
     }
 
-    /// Enters a marker: puts it at its place by id, moves the later ones up by one, and hands back
-    /// the new count.
+    /// Enters a marker of this height, in centimetres: puts it at its place by id, moves the later
+    /// ones up by one, and hands back the new count. Every height is allowed.
     ///
     /// # Errors
     ///
     /// Refuses 1, 3, 4, 5 or 7; then no slot changes.
-    pub fn enter(&mut self, id: u16, place: Place) -> Result<usize, Refusal> {
-        let answer = calls::enter(self, id, place);
+    pub fn enter(&mut self, id: u16, place: Place, height: u16) -> Result<usize, Refusal> {
+        let answer = calls::enter(self, id, place, height);
         self.counted(answer.refusal, answer.count)
     }
 
@@ -363,13 +373,14 @@ impl<'a> MarkersMut<'a> {
         self.counted(answer.refusal, answer.count)
     }
 
-    /// The same list, lent to be asked.
-    pub fn lend(&self) -> MarkersRef<'_> {
+    /// The same list, lent to be asked for a cart.
+    pub fn lend(&self, cart: Cart) -> MarkersRef<'_> {
         MarkersRef {
             slots: self.slots,
             count: self.count,
             width: self.width,
             height: self.height,
+            cart,
         }
     }
 

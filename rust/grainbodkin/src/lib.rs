@@ -11,21 +11,29 @@
 //! A journey: read a map, label it, ask whether home is assured, hop home.
 //!
 //! ```
-//! use grainbodkin::{Markers, Place};
+//! use grainbodkin::{Cart, Markers, Place};
 //!
 //! let markers = Markers::read(b"P1 4 3 0010 0100 0000", 100)?;
-//! println!("{}", markers.label()?);
+//! let cart = Cart::new(20);
+//! println!("{}", markers.label(cart)?);
 //! let (home, mut place) = (Place::new(0, 0), Place::new(3, 2));
 //! let far = home.distance(place);
-//! assert!(markers.assured(home, place)?);
+//! assert!(markers.assured(cart, home, place)?);
 //! let mut hops = 0;
-//! while let Some(next) = markers.hop(home, place)?.first() {
+//! while let Some(next) = markers.hop(cart, home, place)?.first() {
 //!     place = next;
 //!     hops += 1;
 //! }
 //! assert_eq!((place, hops), (home, far));
 //! # Ok::<(), grainbodkin::Refusal>(())
 //! ```
+//!
+//! # Carts and stones
+//!
+//! A [`Marker`] has a height, and a [`Cart`] a ground clearance, both in centimetres: a marker makes
+//! its crossing a rock for a cart exactly if it is higher than the clearance. Every asking names the
+//! cart that asks, and so does writing a map. Entering names the height. A map file has no heights:
+//! what is read from one is as high as can be, [`TALLEST`].
 //!
 //! # Two forms
 //!
@@ -69,7 +77,7 @@ pub use labels::{Label, Labelling, Labels};
 pub use lent::{MarkersMut, MarkersRef};
 pub use lines::Lines;
 pub use map::{Map, Place, LONGEST_FILE, LONGEST_PICTURE, SIDE};
-pub use marker::{Marker, MARKERS};
+pub use marker::{Cart, Marker, MARKERS, TALLEST};
 pub use markers::Markers;
 pub use pictures::{read_sheet, write_sheet, LARGEST, OLD_LARGEST};
 pub use refusal::{NoRefusal, Refusal};

@@ -9,19 +9,20 @@ use crate::Place;
 /// says no:
 ///
 /// ```
-/// use grainbodkin::{Lines, Map, Markers, Place};
+/// use grainbodkin::{Cart, Lines, Map, Markers, Place};
 ///
+/// let cart = Cart::new(20);
 /// let (home, place) = (Place::new(0, 0), Place::new(2, 1));
 /// let mut markers = Markers::new(Map::new(8, 8)?, 2);
-/// markers.enter(1, Place::new(1, 0))?;
-/// assert_eq!(markers.lines(home, place)?, Some(Lines { column: 0, row: 1 }));
-/// assert!(!markers.assured(home, place)?);
+/// markers.enter(1, Place::new(1, 0), 30)?;
+/// assert_eq!(markers.lines(cart, home, place)?, Some(Lines { column: 0, row: 1 }));
+/// assert!(!markers.assured(cart, home, place)?);
 ///
 /// let mut markers = Markers::new(Map::new(8, 8)?, 2);
-/// markers.enter(1, Place::new(0, 1))?;
-/// markers.enter(2, Place::new(2, 0))?;
-/// assert_eq!(markers.lines(home, place)?, None);
-/// assert!(markers.assured(home, place)?);
+/// markers.enter(1, Place::new(0, 1), 30)?;
+/// markers.enter(2, Place::new(2, 0), 30)?;
+/// assert_eq!(markers.lines(cart, home, place)?, None);
+/// assert!(markers.assured(cart, home, place)?);
 /// # Ok::<(), grainbodkin::Refusal>(())
 /// ```
 #[derive(Clone, Copy, Debug, PartialEq, Eq, Hash)]

@@ -3,7 +3,7 @@
 use std::fmt;
 use std::slice::Iter;
 
-use crate::{Map, Marker, MarkersMut, MarkersRef, Place, Refusal, MARKERS};
+use crate::{Cart, Map, Marker, MarkersMut, MarkersRef, Place, Refusal, MARKERS};
 
 /// A list of rock markers for one map, in memory of its own, with room for so many.
 ///
@@ -13,15 +13,18 @@ use crate::{Map, Marker, MarkersMut, MarkersRef, Place, Refusal, MARKERS};
 /// afresh. [`MarkersRef`] and [`MarkersMut`] have the same calls over lent memory.
 ///
 /// ```
-/// use grainbodkin::{Label, Map, Marker, Markers, Place, Refusal};
+/// use grainbodkin::{Cart, Label, Map, Marker, Markers, Place, Refusal};
 ///
-/// // Two markers on one crossing: each is kept, and clearing one leaves the rock.
+/// // Two markers on one crossing: each is kept, and clearing the higher one leaves the other.
 /// let mut markers = Markers::new(Map::new(8, 8)?, 3);
-/// markers.enter(9, Place::new(4, 1))?;
-/// markers.enter(2, Place::new(4, 1))?;
-/// assert_eq!(markers.as_slice(), [Marker::new(2, 4, 1), Marker::new(9, 4, 1)]);
+/// let place = Place::new(4, 1);
+/// markers.enter(9, place, 10)?;
+/// markers.enter(2, place, 30)?;
+/// assert_eq!(markers.as_slice(), [Marker::new(2, 4, 1, 30), Marker::new(9, 4, 1, 10)]);
+/// assert_eq!(markers.label(Cart::new(20))?.label(place), Some(Label::Rock));
 /// markers.clear(2)?;
-/// assert_eq!(markers.label()?.label(Place::new(4, 1)), Some(Label::Rock));
+/// assert_eq!(markers.label(Cart::new(20))?.label(place), Some(Label::Open));
+/// assert_eq!(markers.label(Cart::new(9))?.label(place), Some(Label::Rock));
 /// assert_eq!(markers.clear(2), Err(Refusal::IdNotInUse));
 /// # Ok::<(), Refusal>(())
 /// ```
@@ -45,7 +48,8 @@ impl Markers {
     }
 
     /// Reads a PBM map, P1 or P4, into a list with room for so many markers. Its rocks become
-    /// markers with ids 1, 2, 3 and on, in raster order, the first row being the northmost.
+    /// markers with ids 1, 2, 3 and on, in raster order, the first row being the northmost, each as
+    /// high as can be: [`TALLEST`](crate::TALLEST).
     ///
     /// # Errors
     ///
@@ -53,11 +57,12 @@ impl Markers {
     /// 15, then 7.
     ///
     /// ```
-    /// use grainbodkin::{Marker, Markers, Refusal};
+    /// use grainbodkin::{Marker, Markers, Refusal, TALLEST};
     ///
     /// let markers = Markers::read(b"P4\n# two rocks\n3 2\n\x80\x20", 10)?;
     /// assert_eq!((markers.map().width(), markers.map().height()), (3, 2));
-    /// assert_eq!(markers.as_slice(), [Marker::new(1, 0, 1), Marker::new(2, 2, 0)]);
+    /// let two = [Marker::new(1, 0, 1, TALLEST), Marker::new(2, 2, 0, TALLEST)];
+    /// assert_eq!(markers.as_slice(), two);
     ///
     /// assert_eq!(Markers::read(b"P5 3 2 ", 10).unwrap_err(), Refusal::BadLetters);
     /// # Ok::<(), Refusal>(())
@@ -69,14 +74,14 @@ impl Markers {
         Ok(Markers { map, slots, count })
     }
 
-    /// Enters a marker: puts it at its place by id, moves the later ones up by one, and hands back
-    /// the new count.
+    /// Enters a marker of this height, in centimetres: puts it at its place by id, moves the later
+    /// ones up by one, and hands back the new count. Every height is allowed.
     ///
     /// # Errors
     ///
     /// Refuses 4, 5 or 7; then the list is unchanged.
-    pub fn enter(&mut self, id: u16, place: Place) -> Result<usize, Refusal> {
-        self.count = self.lend_mut().enter(id, place)?;
+    pub fn enter(&mut self, id: u16, place: Place, height: u16) -> Result<usize, Refusal> {
+        self.count = self.lend_mut().enter(id, place, height)?;
         Ok(self.count)
     }
 
@@ -129,13 +134,14 @@ impl Markers {
         slot.ok().map(|slot| self.as_slice()[slot])
     }
 
-    /// The list, lent to be asked with sheets of the caller's.
-    pub fn lend(&self) -> MarkersRef<'_> {
+    /// The list, lent to be asked for a cart, with sheets of the caller's.
+    pub fn lend(&self, cart: Cart) -> MarkersRef<'_> {
         MarkersRef {
             slots: &self.slots,
             count: self.count,
             width: self.map.width(),
             height: self.map.height(),
+            cart,
         }
     }
 

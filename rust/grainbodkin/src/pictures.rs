@@ -15,11 +15,12 @@ pub const OLD_LARGEST: usize = 255;
 /// Refuses 1, 2 or 17; then no byte changes.
 ///
 /// ```
-/// use grainbodkin::{read_sheet, write_sheet, Map, Markers, Place};
+/// use grainbodkin::{read_sheet, write_sheet, Cart, Map, Markers, Place};
 ///
+/// let cart = Cart::new(20);
 /// let mut markers = Markers::new(Map::new(3, 2)?, 4);
-/// markers.enter(1, Place::new(2, 0))?;
-/// let distances = markers.measure()?;
+/// markers.enter(1, Place::new(2, 0), 30)?;
+/// let distances = markers.measure(cart)?;
 /// let mut picture = [0; 40];
 /// let bytes = write_sheet(distances.east(), 3, 2, &mut picture)?;
 /// assert_eq!(&picture[..bytes], b"P5\n3 2\n65535\n\xff\xff\xff\xff\xff\xff\0\x02\0\x01\0\0");

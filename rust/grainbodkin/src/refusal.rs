@@ -60,7 +60,7 @@ pub enum Refusal {
     ShortRaster = 14,
     /// 15: bytes after the raster (in P1: other than blanks).
     LongRaster = 15,
-    /// 16: two markers on one crossing, when writing.
+    /// 16: two markers on one crossing, when writing: all are looked at, low ones included.
     SharedCrossing = 16,
     /// 17: the output is too short for the whole file.
     ShortOutput = 17,

@@ -2,8 +2,8 @@
 
 mod common;
 
-use common::{at, eight, owned, slots, Lent, R, R_LABELS};
-use grainbodkin::{Clear, Refusal, NO_DISTANCE};
+use common::{at, eight, owned, slots, Lent, LOWEST, R, R_LABELS};
+use grainbodkin::{Clear, Refusal, NO_DISTANCE, TALLEST};
 
 const NONE: Clear = Clear {
     east: None,
@@ -16,7 +16,7 @@ const NONE: Clear = Clear {
 fn without_rocks_there_is_no_distance() {
     let markers = owned(&[]);
     for place in markers.map().places() {
-        assert_eq!(markers.distances(place), Ok(NONE));
+        assert_eq!(markers.distances(LOWEST, place), Ok(NONE));
     }
 }
 
@@ -31,18 +31,18 @@ fn the_distances_of_r() {
         north: Some(2),
         ..NONE
     };
-    assert_eq!(markers.distances(at(0, 2)), Ok(east));
-    assert_eq!(markers.distances(at(4, 0)), Ok(north));
-    assert_eq!(markers.distances(at(4, 2)), Ok(Clear::from([0; 4])));
-    assert_eq!(markers.distances(at(8, 2)), Err(Refusal::BadPlace));
-    assert_eq!(markers.distances(at(2, 8)), Err(Refusal::BadPlace));
+    assert_eq!(markers.distances(LOWEST, at(0, 2)), Ok(east));
+    assert_eq!(markers.distances(LOWEST, at(4, 0)), Ok(north));
+    assert_eq!(markers.distances(LOWEST, at(4, 2)), Ok(Clear::from([0; 4])));
+    assert_eq!(markers.distances(LOWEST, at(8, 2)), Err(Refusal::BadPlace));
+    assert_eq!(markers.distances(LOWEST, at(2, 8)), Err(Refusal::BadPlace));
 }
 
 #[test]
 fn the_largest_distance_is_one_less_than_the_side() {
     let map = grainbodkin::Map::new(256, 256).unwrap();
     let mut markers = grainbodkin::Markers::new(map, 1);
-    markers.enter(1, at(255, 0)).unwrap();
+    markers.enter(1, at(255, 0), TALLEST).unwrap();
     let east = Clear {
         east: Some(255),
         ..NONE
@@ -51,10 +51,10 @@ fn the_largest_distance_is_one_less_than_the_side() {
         south: Some(255),
         ..NONE
     };
-    assert_eq!(markers.distances(at(0, 0)), Ok(east));
-    assert_eq!(markers.distances(at(255, 255)), Ok(south));
+    assert_eq!(markers.distances(LOWEST, at(0, 0)), Ok(east));
+    assert_eq!(markers.distances(LOWEST, at(255, 255)), Ok(south));
     // A distance of 255 is told from none, in the sheets too.
-    let distances = markers.measure().unwrap();
+    let distances = markers.measure(LOWEST).unwrap();
     assert_eq!(distances.east()[..2], [255, 254]);
     assert_eq!(distances.east()[256], NO_DISTANCE);
     assert_eq!(distances.south()[65_534..], [NO_DISTANCE, 255]);
@@ -64,9 +64,9 @@ fn the_largest_distance_is_one_less_than_the_side() {
 #[test]
 fn the_sheets_hold_each_crossings_distances() {
     let markers = owned(&R);
-    let distances = markers.measure().unwrap();
+    let distances = markers.measure(LOWEST).unwrap();
     for place in markers.map().places() {
-        let clear = markers.distances(place).unwrap();
+        let clear = markers.distances(LOWEST, place).unwrap();
         let number = markers.map().number(place).unwrap();
         let sheets = [
             distances.east(),

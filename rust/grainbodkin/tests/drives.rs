@@ -2,13 +2,13 @@
 
 mod common;
 
-use common::{asking, at, eight, owned, slots, Lent, R, R_LABELS};
-use grainbodkin::{Chooser, Label, Map, Markers, Refusal};
+use common::{asking, at, eight, owned, slots, Lent, LOWEST, R, R_LABELS};
+use grainbodkin::{Chooser, Label, Map, Markers, Refusal, TALLEST};
 
 #[test]
 fn the_region_of_r() {
     let markers = owned(&R);
-    let region = markers.region(at(0, 0), at(7, 3)).unwrap();
+    let region = markers.region(LOWEST, at(0, 0), at(7, 3)).unwrap();
     assert_eq!(region.len(), 20);
     assert_eq!(region.iter().count(), 20);
     for place in markers.map().places().filter(|place| place.x < 3) {
@@ -22,10 +22,10 @@ fn the_region_of_r() {
 #[test]
 fn a_drive_of_r_is_a_shortest_drive() {
     let markers = owned(&R);
-    let labels = markers.label().unwrap();
+    let labels = markers.label(LOWEST).unwrap();
     for state in 0..200 {
         let drive = markers
-            .drive(at(0, 2), at(7, 4), &mut Chooser(state))
+            .drive(LOWEST, at(0, 2), at(7, 4), &mut Chooser(state))
             .unwrap();
         let places: Vec<_> = drive.places().collect();
         assert_eq!((drive.hops(), places.len()), (9, 10));
@@ -41,10 +41,14 @@ fn a_drive_of_r_is_a_shortest_drive() {
 fn the_chooser_draws_only_between_two() {
     let markers = owned(&[]);
     let mut chooser = Chooser(0);
-    let drive = markers.drive(at(0, 0), at(2, 1), &mut chooser).unwrap();
+    let drive = markers
+        .drive(LOWEST, at(0, 0), at(2, 1), &mut chooser)
+        .unwrap();
     assert_eq!(drive.numbers(), [0, 1, 2, 10]);
     assert_eq!(chooser, Chooser(0x4750_2932));
-    let drive = markers.drive(at(0, 3), at(2, 3), &mut chooser).unwrap();
+    let drive = markers
+        .drive(LOWEST, at(0, 3), at(2, 3), &mut chooser)
+        .unwrap();
     assert_eq!(drive.numbers(), [24, 25, 26]);
     assert_eq!(chooser, Chooser(0x4750_2932));
 }
@@ -54,7 +58,7 @@ fn the_filled_part_is_handed_back_and_the_rest_stays() {
     let mut route = [7; 6];
     let mut chooser = Chooser(0);
     let markers = owned(&[]);
-    let filled = markers.drive_into(at(0, 0), at(2, 1), &mut route, &mut chooser);
+    let filled = markers.drive_into(LOWEST, at(0, 0), at(2, 1), &mut route, &mut chooser);
     assert_eq!(filled.unwrap(), [0, 1, 2, 10]);
     assert_eq!(route, [0, 1, 2, 10, 7, 7]);
 }
@@ -63,12 +67,12 @@ fn the_filled_part_is_handed_back_and_the_rest_stays() {
 fn one_crossing_to_itself() {
     let mut markers = Markers::new(Map::new(1, 1).unwrap(), 1);
     let (here, mut chooser) = (at(0, 0), Chooser(5));
-    let drive = markers.drive(here, here, &mut chooser).unwrap();
+    let drive = markers.drive(LOWEST, here, here, &mut chooser).unwrap();
     assert_eq!((drive.numbers(), drive.hops()), (&[0][..], 0));
-    markers.enter(1, here).unwrap();
-    let refused = markers.drive(here, here, &mut chooser);
+    markers.enter(1, here, TALLEST).unwrap();
+    let refused = markers.drive(LOWEST, here, here, &mut chooser);
     assert_eq!(refused, Err(Refusal::EndClosed));
-    assert_eq!(markers.region(here, here), Err(Refusal::EndClosed));
+    assert_eq!(markers.region(LOWEST, here, here), Err(Refusal::EndClosed));
     assert_eq!(chooser, Chooser(5));
 }
 
@@ -118,10 +122,10 @@ fn at_9_the_region_is_all_0() {
 fn at_10_the_region_stands() {
     let markers = owned(&R);
     let (s, d) = (at(0, 0), at(7, 3));
-    let region = markers.region(s, d).unwrap().sheet().to_vec();
+    let region = markers.region(LOWEST, s, d).unwrap().sheet().to_vec();
     for room in [0, 10] {
         let mut after = Lent::new(64, room);
-        let answer = asking("drive")(markers.lend(), s, d, &mut after);
+        let answer = asking("drive")(markers.lend(LOWEST), s, d, &mut after);
         assert_eq!(answer, Err(Refusal::ShortRoute));
         let (labels, region) = (R_LABELS.to_vec(), region.clone());
         assert_eq!(
@@ -134,6 +138,9 @@ fn at_10_the_region_stands() {
         );
     }
     let mut after = Lent::new(64, 11);
-    assert_eq!(asking("drive")(markers.lend(), s, d, &mut after), Ok(()));
+    assert_eq!(
+        asking("drive")(markers.lend(LOWEST), s, d, &mut after),
+        Ok(())
+    );
     assert_eq!((after.labels, after.region), (R_LABELS.to_vec(), region));
 }

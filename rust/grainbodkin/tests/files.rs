@@ -4,20 +4,17 @@ mod common;
 
 use std::collections::HashSet;
 
-use common::{at, bad_lists, eight, slots, BAD_SIZES, R};
+use common::{at, bad_lists, eight, rock, slots, BAD_SIZES, LOWEST, R};
 use grainbodkin::{
     Map, Marker, Markers, MarkersMut, MarkersRef, Place, Refusal, LONGEST_FILE, MARKERS, SIDE,
+    TALLEST,
 };
 
-const OTHER: Marker = Marker::new(500, 600, 700);
+const OTHER: Marker = rock(500, 600, 700);
 
 #[test]
 fn rocks_become_markers_in_raster_order() {
-    let three = [
-        Marker::new(1, 1, 1),
-        Marker::new(2, 0, 0),
-        Marker::new(3, 2, 0),
-    ];
+    let three = [rock(1, 1, 1), rock(2, 0, 0), rock(3, 2, 0)];
     let files: [&[u8]; 4] = [
         b"P1 3 2 010101",
         b"P1\n#a comment\n3\t002\r\n0 1 0\n1 0 1\n",
@@ -91,11 +88,8 @@ fn more_rocks_than_markers_are_refused_7() {
     let mut most = full;
     most[11 + 1024..].fill(0);
     let markers = Markers::read(&most, MARKERS).unwrap();
-    assert_eq!(
-        markers.as_slice().last(),
-        Some(&Marker::new(8192, 255, 224))
-    );
-    assert_eq!(markers.write().unwrap()[11..], most[11..]);
+    assert_eq!(markers.as_slice().last(), Some(&rock(8192, 255, 224)));
+    assert_eq!(markers.write(LOWEST).unwrap()[11..], most[11..]);
     most[11 + 1024] = 0x80;
     assert_eq!(Markers::read(&most, MARKERS), Err(Refusal::NoSlot));
 }
@@ -108,6 +102,7 @@ fn writing_fills_the_front_and_leaves_the_rest() {
         count: 3,
         width: 10,
         height: 3,
+        cart: LOWEST,
     };
     let mut out = [b'-'; 16];
     assert_eq!(list.write(&mut out), Ok(14));
@@ -156,10 +151,10 @@ fn refusals_of_writing_change_no_byte() {
 #[test]
 fn an_owned_list_is_not_written_with_two_markers_on_one_crossing() {
     let mut markers = Markers::read(b"P1 2 1 11", 3).unwrap();
-    markers.enter(9, at(0, 0)).unwrap();
-    assert_eq!(markers.write(), Err(Refusal::SharedCrossing));
+    markers.enter(9, at(0, 0), TALLEST).unwrap();
+    assert_eq!(markers.write(LOWEST), Err(Refusal::SharedCrossing));
     markers.clear(1).unwrap();
-    assert_eq!(markers.write().unwrap(), b"P4\n2 1\n\xc0");
+    assert_eq!(markers.write(LOWEST).unwrap(), b"P4\n2 1\n\xc0");
 }
 
 /// The crossings with a marker, each once.
@@ -179,15 +174,18 @@ fn every_size_is_written_in_its_file_length_and_read_again() {
         let mut markers = Markers::new(map, 2);
         let corners = HashSet::from([at(0, 0), at(map.width() - 1, map.height() - 1)]);
         for (id, corner) in (1..).zip(&corners) {
-            markers.enter(id, *corner).unwrap();
+            markers.enter(id, *corner, TALLEST).unwrap();
         }
         let mut out = vec![0; map.file_len()];
-        assert_eq!(markers.lend().write(&mut out), Ok(map.file_len()));
-        assert_eq!(markers.write().unwrap(), out);
+        assert_eq!(markers.lend(LOWEST).write(&mut out), Ok(map.file_len()));
+        assert_eq!(markers.write(LOWEST).unwrap(), out);
         let again = Markers::read(&out, 2).unwrap();
         assert_eq!((again.map(), rocks(&again)), (map, corners));
         out.pop();
-        assert_eq!(markers.lend().write(&mut out), Err(Refusal::ShortOutput));
+        assert_eq!(
+            markers.lend(LOWEST).write(&mut out),
+            Err(Refusal::ShortOutput)
+        );
     }
     assert_eq!(LONGEST_FILE, "P4\n256 256\n".len() + 256 * 32);
 }
@@ -196,13 +194,13 @@ fn every_size_is_written_in_its_file_length_and_read_again() {
 fn a_written_map_is_read_with_the_same_crossings() {
     // Ids 1, 2, 3 in raster order, so the list itself comes back.
     let markers = Markers::read(b"P1 9 2 100000001 010000000", 3).unwrap();
-    let again = Markers::read(&markers.write().unwrap(), 3).unwrap();
+    let again = Markers::read(&markers.write(LOWEST).unwrap(), 3).unwrap();
     assert_eq!(again, markers);
     // Other ids: the crossings come back.
     let mut other = Markers::new(markers.map(), 3);
     for (id, marker) in [9, 4, 7].into_iter().zip(&markers) {
-        other.enter(id, marker.place()).unwrap();
+        other.enter(id, marker.place(), TALLEST).unwrap();
     }
     assert_ne!(other, markers);
-    assert_eq!(Markers::read(&other.write().unwrap(), 3), Ok(markers));
+    assert_eq!(Markers::read(&other.write(LOWEST).unwrap(), 3), Ok(markers));
 }

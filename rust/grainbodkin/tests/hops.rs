@@ -2,17 +2,17 @@
 
 mod common;
 
-use common::{asking, at, eight, owned, slots, Lent, R, R_LABELS};
+use common::{asking, at, eight, owned, slots, Lent, LOWEST, R, R_LABELS};
 use grainbodkin::{Hops, Markers, Place, Refusal};
 
 #[test]
 fn home_is_assured_up_to_the_closed_crossing() {
     let markers = owned(&R);
     let home = at(0, 2);
-    assert_eq!(markers.assured(home, at(2, 5)), Ok(true));
-    assert_eq!(markers.assured(home, at(3, 5)), Ok(true));
-    assert_eq!(markers.assured(home, at(4, 5)), Ok(false));
-    assert_eq!(markers.assured(home, home), Ok(true));
+    assert_eq!(markers.assured(LOWEST, home, at(2, 5)), Ok(true));
+    assert_eq!(markers.assured(LOWEST, home, at(3, 5)), Ok(true));
+    assert_eq!(markers.assured(LOWEST, home, at(4, 5)), Ok(false));
+    assert_eq!(markers.assured(LOWEST, home, home), Ok(true));
 }
 
 #[test]
@@ -22,19 +22,19 @@ fn the_answer_names_every_permitted_hop() {
         east_west: at(5, 5),
         north_south: at(6, 4),
     };
-    assert_eq!(markers.hop(at(0, 4), at(6, 5)), Ok(two));
+    assert_eq!(markers.hop(LOWEST, at(0, 4), at(6, 5)), Ok(two));
     assert!(two.iter().eq([at(5, 5), at(6, 4)]));
     // From (4,4) south stands the rock (4,3).
     let one = Hops::One(at(3, 4));
-    assert_eq!(markers.hop(at(0, 0), at(4, 4)), Ok(one));
+    assert_eq!(markers.hop(LOWEST, at(0, 0), at(4, 4)), Ok(one));
     assert!(one.iter().eq([at(3, 4)]));
-    assert_eq!(markers.hop(at(1, 1), at(1, 1)), Ok(Hops::There));
+    assert_eq!(markers.hop(LOWEST, at(1, 1), at(1, 1)), Ok(Hops::There));
     assert_eq!((Hops::There.first(), Hops::There.iter().count()), (None, 0));
 }
 
 /// Every way home from an assured place, by every hop that is told; each is followed to its end.
 fn walk(markers: &Markers, home: Place, place: Place) {
-    let hops = markers.hop(home, place).unwrap();
+    let hops = markers.hop(LOWEST, home, place).unwrap();
     assert_eq!(hops == Hops::There, place == home);
     for next in hops.iter() {
         assert_eq!(next.distance(place), 1);
@@ -49,7 +49,7 @@ fn every_hop_from_an_assured_place_leads_home() {
     let home = at(1, 0);
     let mut places = 0;
     for place in markers.map().places() {
-        if markers.assured(home, place) == Ok(true) {
+        if markers.assured(LOWEST, home, place) == Ok(true) {
             walk(&markers, home, place);
             places += 1;
         }

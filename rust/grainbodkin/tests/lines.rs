@@ -2,7 +2,7 @@
 
 mod common;
 
-use common::{asking, at, eight, owned, slots, Lent, R, R_LABELS};
+use common::{asking, at, eight, owned, slots, Lent, LOWEST, R, R_LABELS};
 use grainbodkin::{Chooser, Finding, Lines, Refusal};
 
 fn lines(column: usize, row: usize) -> Option<Lines> {
@@ -12,12 +12,12 @@ fn lines(column: usize, row: usize) -> Option<Lines> {
 #[test]
 fn the_westmost_column_and_the_southmost_row() {
     let markers = owned(&R);
-    assert_eq!(markers.lines(at(0, 2), at(7, 4)), Ok(lines(0, 4)));
-    assert_eq!(markers.lines(at(7, 4), at(0, 2)), Ok(lines(0, 4)));
-    assert_eq!(markers.lines(at(4, 4), at(7, 0)), Ok(lines(6, 0)));
-    assert_eq!(markers.lines(at(4, 0), at(4, 5)), Ok(None));
-    assert_eq!(markers.lines(at(0, 2), at(7, 2)), Ok(None));
-    assert_eq!(markers.lines(at(1, 1), at(1, 1)), Ok(lines(1, 1)));
+    assert_eq!(markers.lines(LOWEST, at(0, 2), at(7, 4)), Ok(lines(0, 4)));
+    assert_eq!(markers.lines(LOWEST, at(7, 4), at(0, 2)), Ok(lines(0, 4)));
+    assert_eq!(markers.lines(LOWEST, at(4, 4), at(7, 0)), Ok(lines(6, 0)));
+    assert_eq!(markers.lines(LOWEST, at(4, 0), at(4, 5)), Ok(None));
+    assert_eq!(markers.lines(LOWEST, at(0, 2), at(7, 2)), Ok(None));
+    assert_eq!(markers.lines(LOWEST, at(1, 1), at(1, 1)), Ok(lines(1, 1)));
     assert_eq!(lines(6, 0).unwrap().meeting(), at(6, 0));
 }
 
@@ -27,15 +27,18 @@ fn the_westmost_column_and_the_southmost_row() {
 fn the_drive_goes_by_way_of_the_meeting_crossing() {
     let markers = owned(&R);
     let (s, d) = (at(4, 4), at(7, 0));
-    let meeting = markers.lines(s, d).unwrap().unwrap().meeting();
+    let meeting = markers.lines(LOWEST, s, d).unwrap().unwrap().meeting();
     for state in 0..200 {
         let mut chooser = Chooser(state);
-        let drive = markers.lines_drive(s, d, &mut chooser).unwrap();
-        assert_eq!(markers.check(s, d, drive.numbers()), Ok(Finding::Accepted));
+        let drive = markers.lines_drive(LOWEST, s, d, &mut chooser).unwrap();
+        assert_eq!(
+            markers.check(LOWEST, s, d, drive.numbers()),
+            Ok(Finding::Accepted)
+        );
         assert_eq!(drive.places().filter(|&place| place == meeting).count(), 1);
         let mut parts = Chooser(state);
-        let first = markers.drive(s, meeting, &mut parts).unwrap();
-        let onward = markers.drive(meeting, d, &mut parts).unwrap();
+        let first = markers.drive(LOWEST, s, meeting, &mut parts).unwrap();
+        let onward = markers.drive(LOWEST, meeting, d, &mut parts).unwrap();
         let joined = [first.numbers(), &onward.numbers()[1..]].concat();
         assert_eq!((drive.numbers(), chooser), (&joined[..], parts));
     }
@@ -61,7 +64,7 @@ fn what_refusals_leave() {
             ..before
         };
         if refusal == Refusal::ShortRoute {
-            let region = owned(&R).region(at(0, 2), d).unwrap();
+            let region = owned(&R).region(LOWEST, at(0, 2), d).unwrap();
             expected.region = region.sheet().to_vec();
         }
         assert_eq!(after, expected, "{refusal}");

@@ -1,7 +1,7 @@
 //! The two picture calls through the wrapper.
 use grainbodkin::{
-    read_sheet, write_sheet, Map, Markers, Place, Refusal, LARGEST, LONGEST_PICTURE, NO_DISTANCE,
-    OLD_LARGEST, SIDE,
+    read_sheet, write_sheet, Cart, Map, Markers, Place, Refusal, LARGEST, LONGEST_PICTURE,
+    NO_DISTANCE, OLD_LARGEST, SIDE, TALLEST,
 };
 
 /// Every sheet of distances reads back as the same sheet, and takes the bytes that are foretold.
@@ -10,9 +10,9 @@ fn distances_read_back() {
     let map = Map::new(12, 7).unwrap();
     let mut markers = Markers::new(map, 4);
     for (id, x, y) in [(1, 3, 2), (2, 4, 3), (3, 9, 6)] {
-        markers.enter(id, Place::new(x, y)).unwrap();
+        markers.enter(id, Place::new(x, y), TALLEST).unwrap();
     }
-    let distances = markers.measure().unwrap();
+    let distances = markers.measure(Cart::LOWEST).unwrap();
     let (east, south) = (distances.east(), distances.south());
     let (west, north) = (distances.west(), distances.north());
     for sheet in [east, south, west, north] {

@@ -5,8 +5,8 @@ mod common;
 
 use std::error::Error;
 
-use common::{at, bad_lists, eight, slots, Lent, ASKINGS, BAD_SIZES, R};
-use grainbodkin::{Map, Markers, MarkersRef, NoRefusal, Refusal, SIDE};
+use common::{at, bad_lists, eight, slots, Lent, ASKINGS, BAD_SIZES, LOWEST, R};
+use grainbodkin::{Map, Markers, MarkersRef, NoRefusal, Refusal, SIDE, TALLEST};
 
 /// Asks all of them, and sees that each is refused so and changes nothing that is lent.
 fn all_refuse(list: MarkersRef<'_>, lent: &Lent, refusal: Refusal) {
@@ -178,6 +178,7 @@ fn a_flat_map_is_not_a_tall_one() {
         count: 1,
         width: 9,
         height: 2,
+        cart: LOWEST,
     };
     let tall = MarkersRef {
         width: 2,
@@ -208,33 +209,33 @@ fn every_number_is_reached() {
         count: 1,
         ..eight(&[])
     };
-    let full = Markers::new(markers.map(), 0).enter(1, at(0, 0));
+    let full = Markers::new(markers.map(), 0).enter(1, at(0, 0), TALLEST);
     let read = |file: &[u8]| Markers::read(file, 9).unwrap_err();
     let mut reached = vec![
         no_size.label(&mut labels).unwrap_err(),
-        markers.lend().label(&mut labels[1..]).unwrap_err(),
+        markers.lend(LOWEST).label(&mut labels[1..]).unwrap_err(),
         over.label(&mut labels).unwrap_err(),
-        markers.distances(at(8, 0)).unwrap_err(),
-        markers.enter(1, at(0, 0)).unwrap_err(),
+        markers.distances(LOWEST, at(8, 0)).unwrap_err(),
+        markers.enter(1, at(0, 0), TALLEST).unwrap_err(),
         markers.clear(4).unwrap_err(),
         full.unwrap_err(),
-        markers.assured(at(4, 2), at(0, 0)).unwrap_err(),
-        markers.region(at(0, 2), at(7, 2)).unwrap_err(),
+        markers.assured(LOWEST, at(4, 2), at(0, 0)).unwrap_err(),
+        markers.region(LOWEST, at(0, 2), at(7, 2)).unwrap_err(),
         markers
-            .drive_into(at(0, 0), at(1, 0), &mut [0], &mut chooser)
+            .drive_into(LOWEST, at(0, 0), at(1, 0), &mut [0], &mut chooser)
             .unwrap_err(),
-        markers.hop(at(0, 2), at(4, 5)).unwrap_err(),
+        markers.hop(LOWEST, at(0, 2), at(4, 5)).unwrap_err(),
         read(b"P7"),
         read(b"P4 8"),
         read(b"P4 8 1 "),
         read(b"P4 8 1 .."),
     ];
-    markers.enter(4, at(3, 2)).unwrap();
-    reached.push(markers.write().unwrap_err());
+    markers.enter(4, at(3, 2), TALLEST).unwrap();
+    reached.push(markers.write(LOWEST).unwrap_err());
     markers.clear(4).unwrap();
-    reached.push(markers.lend().write(&mut [0; 14]).unwrap_err());
+    reached.push(markers.lend(LOWEST).write(&mut [0; 14]).unwrap_err());
     reached.push(grainbodkin::read_sheet(b"P5 1 1 9 .", &mut [0]).unwrap_err());
-    let by_lines = markers.lines_drive(at(0, 2), at(7, 2), &mut chooser);
+    let by_lines = markers.lines_drive(LOWEST, at(0, 2), at(7, 2), &mut chooser);
     reached.push(by_lines.unwrap_err());
     assert_eq!(reached, Refusal::ALL);
 }
@@ -260,6 +261,7 @@ fn hostile_numbers_are_answered() {
                 count,
                 width,
                 height,
+                cart: LOWEST,
             };
             let fits = count == 0 && size.is_ok_and(|map| map.crossings() == 64);
             for (name, ask) in ASKINGS {

@@ -5,12 +5,13 @@ use crate::markers::{bad_list, Marker};
 use crate::refusals::first_that_applies;
 
 /// What an asking is lent and told apart from its own buffers: the list, its count, the map, the
-/// label sheet, and the places asked about.
+/// cart's ground clearance, the label sheet, and the places asked about.
 #[derive(Clone, Copy, Debug)]
 pub struct Asking<'a> {
     pub list: &'a [Marker],
     pub count: usize,
     pub map: Map,
+    pub clearance: u16,
     pub labels: &'a [u8],
     pub places: &'a [Crossing],
 }
@@ -32,11 +33,11 @@ impl Asking<'_> {
 
     /// The labelling, once refusals 1 to 4 do not apply.
     pub fn labelled(&self) -> Labelled {
-        Labelled::new(self.map, &self.list[..self.count])
+        Labelled::new(self.map, self.clearance, &self.list[..self.count])
     }
 }
 
-/// A map with its rocks and closed crossings.
+/// A map with one cart's rocks and closed crossings.
 #[derive(Clone, Debug)]
 pub struct Labelled {
     pub map: Map,
@@ -47,8 +48,8 @@ pub struct Labelled {
 }
 
 impl Labelled {
-    pub fn new(map: Map, used: &[Marker]) -> Labelled {
-        let rocks = rocks(used);
+    pub fn new(map: Map, clearance: u16, used: &[Marker]) -> Labelled {
+        let rocks = rocks(used, clearance);
         let closed = closed(map, &rocks);
         let closed_at = map.sheet(|c| closed.contains(&c));
         Labelled {

@@ -83,12 +83,17 @@ mod tests {
     use super::*;
     use crate::drives::{drive_of, region_of};
     use crate::map::Map;
-    use crate::markers::Marker;
+    use crate::markers::{Marker, TALLEST};
 
     fn labelled(rocks: &[(u16, u16)]) -> Labelled {
-        let marker = |(id, &(x, y)): (u16, &(u16, u16))| Marker { id, x, y };
+        let marker = |(id, &(x, y)): (u16, &(u16, u16))| Marker {
+            id,
+            x,
+            y,
+            height: TALLEST,
+        };
         let list: Vec<_> = (1..).zip(rocks).map(marker).collect();
-        Labelled::new(Map::new(8, 8), &list)
+        Labelled::new(Map::new(8, 8), 0, &list)
     }
 
     fn found(on: &Labelled, s: (usize, usize), d: (usize, usize), drawn: &[u16]) -> (u8, usize) {

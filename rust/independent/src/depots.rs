@@ -5,6 +5,7 @@ use crate::files::markers_of;
 use crate::following::{first, First};
 use crate::labels::{OPEN, ROCK, SHUT};
 use crate::map::{Crossing, Map};
+use crate::text::CLEARANCE;
 use std::collections::{BTreeMap, VecDeque};
 use std::fmt::Write;
 
@@ -107,7 +108,7 @@ pub fn run(mut input: &[u8]) -> Run {
         }
         match first(input) {
             First::Map(picture, bytes) => {
-                let on = Labelled::new(picture.map, &markers_of(&picture.rocks));
+                let on = Labelled::new(picture.map, CLEARANCE, &markers_of(&picture.rocks));
                 maps.push(depots(&on));
                 input = &input[bytes..];
             }
@@ -237,7 +238,7 @@ mod tests {
             for rocks in 0..1u32 << (width * height) {
                 let marked = |&c: &Crossing| rocks >> map.number(c) & 1 == 1;
                 let rocks: Vec<_> = map.crossings().filter(marked).collect();
-                let on = Labelled::new(map, &markers_of(&rocks));
+                let on = Labelled::new(map, CLEARANCE, &markers_of(&rocks));
                 for depot in corners(map).into_iter().filter(|&c| on.open(c)) {
                     let hops = fewest_hops(&on, depot);
                     for c in map.crossings().filter(|&c| on.open(c)) {

@@ -1,7 +1,7 @@
 //! "Map files": PBM read and written, byte by byte at positions of the file.
 use crate::labels::rocks;
 use crate::map::{Crossing, Crossings, Map};
-use crate::markers::{bad_list, Marker, MOST};
+use crate::markers::{bad_list, Marker, MOST, TALLEST};
 use crate::refusals::{first_that_applies, DONE};
 
 /// What reading leaves.
@@ -182,7 +182,7 @@ pub fn fitting(picture: Picture, slots: usize) -> Result<Picture, u8> {
 }
 
 /// The markers of a file's rocks, at most as many as a list may hold: ids 1, 2, 3 and on, in raster
-/// order.
+/// order. "Markers read from a map file get 65,535" (Req 08) as their height.
 pub fn markers_of(rocks: &[Crossing]) -> Vec<Marker> {
     let with_ids = rocks.iter().zip(1u16..);
     with_ids
@@ -190,6 +190,7 @@ pub fn markers_of(rocks: &[Crossing]) -> Vec<Marker> {
             id,
             x: c.x as u16,
             y: c.y as u16,
+            height: TALLEST,
         })
         .collect()
 }
@@ -230,13 +231,20 @@ pub fn raw_file(map: Map, rocks: &Crossings) -> Vec<u8> {
     file
 }
 
-/// Writes a list as a raw file to the front of the output.
-pub fn write(list: &[Marker], count: usize, map: Map, out: &[u8]) -> WroteMap {
-    let file = || raw_file(map, &rocks(&list[..count]));
+/// Two markers, of whatever heights, stand on one crossing: "16 looks at all markers, low ones
+/// included" (Req 08).
+fn shared(used: &[Marker]) -> bool {
+    let places: Crossings = used.iter().map(|m| m.crossing()).collect();
+    places.len() < used.len()
+}
+
+/// Writes the rocks of a cart of this clearance as a raw file to the front of the output.
+pub fn write(list: &[Marker], count: usize, map: Map, clearance: u16, out: &[u8]) -> WroteMap {
+    let file = || raw_file(map, &rocks(&list[..count], clearance));
     let refusal = first_that_applies(&[
         (1, &|| map.bad_size()),
         (3, &|| bad_list(map, list, count)),
-        (16, &|| rocks(&list[..count]).len() < count),
+        (16, &|| shared(&list[..count])),
         (17, &|| out.len() < file().len()),
     ]);
     let mut after = out.to_vec();

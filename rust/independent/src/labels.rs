@@ -19,9 +19,10 @@ pub struct Labelling {
     pub labels: Vec<u8>,
 }
 
-/// The crossings on which at least one marker stands.
-pub fn rocks(used: &[Marker]) -> Crossings {
-    used.iter().map(|m| m.crossing()).collect()
+/// The crossings on which at least one marker stands that stops a cart of this clearance.
+pub fn rocks(used: &[Marker], clearance: u16) -> Crossings {
+    let stopping = used.iter().filter(|m| m.stops(clearance));
+    stopping.map(|m| m.crossing()).collect()
 }
 
 /// The smallest set that holds all rocks and every crossing with two or more closed neighbours:
@@ -62,8 +63,8 @@ pub fn groups(map: Map, closed: &Crossings) -> Vec<Crossings> {
     groups
 }
 
-/// Labels the map.
-pub fn label(list: &[Marker], count: usize, map: Map, labels: &[u8]) -> Labelling {
+/// Labels the map for a cart of this clearance.
+pub fn label(list: &[Marker], count: usize, map: Map, clearance: u16, labels: &[u8]) -> Labelling {
     let refusal = first_that_applies(&[
         (1, &|| map.bad_size()),
         (2, &|| map.bad_sheet(labels.len())),
@@ -78,7 +79,7 @@ pub fn label(list: &[Marker], count: usize, map: Map, labels: &[u8]) -> Labellin
             labels: labels.to_vec(),
         };
     }
-    let labelled = Labelled::new(map, &list[..count]);
+    let labelled = Labelled::new(map, clearance, &list[..count]);
     Labelling {
         refusal,
         rocks: labelled.rocks.len(),

@@ -122,12 +122,17 @@ mod tests {
     use crate::distances::is_assured;
     use crate::drives::drawn;
     use crate::map::Map;
-    use crate::markers::Marker;
+    use crate::markers::{Marker, TALLEST};
 
     fn labelled(rocks: &[(u16, u16)]) -> Labelled {
-        let marker = |(id, &(x, y)): (u16, &(u16, u16))| Marker { id, x, y };
+        let marker = |(id, &(x, y)): (u16, &(u16, u16))| Marker {
+            id,
+            x,
+            y,
+            height: TALLEST,
+        };
         let list: Vec<_> = (1..).zip(rocks).map(marker).collect();
-        Labelled::new(Map::new(8, 8), &list)
+        Labelled::new(Map::new(8, 8), 0, &list)
     }
 
     fn at(x: usize, y: usize) -> Crossing {

@@ -5,17 +5,27 @@ use crate::refusals::{first_that_applies, DONE};
 /// At most so many markers are in use.
 pub const MOST: usize = 8192;
 
-/// A marker: an id, 1 to 65,535, and a crossing.
+/// The greatest height, and the greatest clearance.
+pub const TALLEST: u16 = 65_535;
+
+/// A marker: an id, 1 to 65,535, a crossing, and "a height in centimetres, 0 to 65,535" (Req 08).
 #[derive(Clone, Copy, Debug, Default, PartialEq, Eq)]
 pub struct Marker {
     pub id: u16,
     pub x: u16,
     pub y: u16,
+    pub height: u16,
 }
 
 impl Marker {
     pub fn crossing(self) -> Crossing {
         Crossing::new(usize::from(self.x), usize::from(self.y))
+    }
+
+    /// "A marker makes its crossing a rock for that cart exactly if its height is greater than the
+    /// clearance" (Req 08).
+    pub fn stops(self, clearance: u16) -> bool {
+        self.height > clearance
     }
 }
 
@@ -44,8 +54,15 @@ fn in_use(list: &[Marker], count: usize, id: u16) -> bool {
     list[..count].iter().any(|m| m.id == id)
 }
 
-/// Enters a marker: the ones in use with it, sorted by id, fill the first slots.
-pub fn enter(list: &[Marker], count: usize, map: Map, id: u16, (x, y): (usize, usize)) -> Counted {
+/// Enters a marker of any height: the ones in use with it, sorted by id, fill the first slots.
+pub fn enter(
+    list: &[Marker],
+    count: usize,
+    map: Map,
+    id: u16,
+    (x, y): (usize, usize),
+    height: u16,
+) -> Counted {
     let refusal = first_that_applies(&[
         (1, &|| map.bad_size()),
         (3, &|| bad_list(map, list, count)),
@@ -61,6 +78,7 @@ pub fn enter(list: &[Marker], count: usize, map: Map, id: u16, (x, y): (usize, u
         id,
         x: x as u16,
         y: y as u16,
+        height,
     });
     used.sort_by_key(|m| m.id);
     let mut after = list.to_vec();

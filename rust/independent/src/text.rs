@@ -5,6 +5,9 @@ use crate::labels::{groups, ROCK, SHUT};
 use crate::map::Crossing;
 use crate::markers::MOST;
 
+/// "Programs ask with clearance 0" (Req 08).
+pub const CLEARANCE: u16 = 0;
+
 /// A program takes at most so many input bytes.
 pub const LONGEST: usize = 65_536;
 
@@ -18,7 +21,7 @@ pub fn label_text(input: &[u8]) -> String {
         Err(refusal) => return format!("refused {refusal}\n"),
     };
     let map = picture.map;
-    let on = Labelled::new(map, &markers_of(&picture.rocks));
+    let on = Labelled::new(map, CLEARANCE, &markers_of(&picture.rocks));
     let shut = on.closed.len() - on.rocks.len();
     let groups = groups(map, &on.closed).len();
     let mut text = format!(

@@ -3,7 +3,7 @@
 -- another's place is refused for what it says and not for its size.
 use mathlib.Core.Path.{refl}
 use native.Mathlib.Omega.{arith}
-use Rattle.field.specs.Limits.{side-is, crossings-few}
+use Rattle.field.specs.Limits.{side-is, tallest-is, crossings-few}
 use Rattle.exchange.proofs.Rocks.{mark-fits}
 use Rattle.exchange.proofs.marker_of.Statement.{statement}
 use Rattle.exchange.proofs.marker_of.Tie as tie
@@ -43,7 +43,7 @@ cast-t15 : tie.Need-cast-t15
 cast-t15 c = let m = mark-fits (c .pre) in record { fits = omega (arith, m .id, m .x, m .y, m .inside) }
 
 returns : tie.Need-returns
-returns c = refl
+returns c = rw tallest-is refl
 
 pub marker-of-spec : {M : Type 1} → statement M
 marker-of-spec = tie.close (tie.spec add-id cast-at cast-row rem-x div-rows cast-rows add-rows sub-y cast-t13 cast-t14 cast-t15 returns)

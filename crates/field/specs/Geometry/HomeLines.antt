@@ -28,7 +28,7 @@ enough-lesser (at-most m) l = (at-most (omega arith), inr (omega arith))
 
 -- On document 01's maps no two crossings of a line are as far apart as the number that marks no
 -- distance, so that it is no distance. On a wider map it could be one.
-along-length : {w h : ℕ} (t : Way) (n x y a b : ℕ) → Sides w h → On w h x y → On w h a b → Along t n x y a b → n < no-distance
+pub along-length : {w h : ℕ} (t : Way) (n x y a b : ℕ) → Sides w h → On w h x y → On w h a b → Along t n x y a b → n < no-distance
 along-length {w} {h} t n x y a b s =
     along-short t no-distance w h n x y a b (omega (arith, s .most-w, no-distance-far)) (omega (arith, s .most-h, no-distance-far))
 

@@ -6,6 +6,10 @@ use Prim.Native.Nat.{ℕ, _+_, _-_, _≤_, min, max}
 use Rattle.field.specs.Groups.{Linked}
 use Rattle.field.specs.Hops.{Taken}
 
+-- Every crossing of C is one of D.
+abbrev pub Among : (ℕ → ℕ → Type 0) → (ℕ → ℕ → Type 0) → Type 0
+Among C D = (x y : ℕ) → C x y → D x y
+
 -- u lies between a and b, both included.
 abbrev pub Between : ℕ → ℕ → ℕ → Type 0
 Between a u b = (min a b ≤ u) × (u ≤ max a b)

@@ -63,6 +63,21 @@ module _ {w h : ℕ} {P Q : ℕ → ℕ → Type 0} (s : Same w h P Q) where
 pub count-one : (w h : ℕ) {P : ℕ → ℕ → Type 0} {n m : ℕ} → Count w h P n → Count w h P m → n ≡ m
 count-one w h = count-same {w = w} {h = h} (λ x y o. (λ p. p, λ p. p))
 
+-- Of what no crossing is in there are none.
+sum-zero : (n : ℕ) → sumTo n (λ k. 0) ≡ 0
+unfolding sumTo
+sum-zero zero = refl
+sum-zero (suc n) = omega (arith, sum-zero n)
+
+pub count-none : (w h : ℕ) {P : ℕ → ℕ → Type 0} {n : ℕ} → ((x y : ℕ) → ¬ P x y) → Count w h P n → n ≡ 0
+unfolding tally
+count-none w h {P} f c =
+    c .1 ∙ count-tally w h P (c .0) (λ x y. 0) (λ x y p q. none (c .0 x y) (f x y)) ∙ sum-same h _ _ (λ y l. sum-zero w) ∙ sum-zero h
+  where
+    none : {Q : Type 0} (d : Dec Q) → ¬ Q → one d ≡ 0
+    none (yes q) n = absurd (n q)
+    none (no m) n = refl
+
 -- What a test tells of each crossing of the map is counted by the test.
 pub count-tests : (w h : ℕ) (P : ℕ → ℕ → Type 0) (f : ℕ → ℕ → Bool) → ((x y : ℕ) → On w h x y → (P x y ↔ f x y ≡ true))
     → ((x y : ℕ) → Dec (P x y)) → Count w h P (tally w h (λ x y. bit (f x y)))

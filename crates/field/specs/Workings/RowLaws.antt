@@ -55,7 +55,7 @@ module _ (rocks : List Place) where
 
   rocks-draw : Draws wide high (RockOn R wide high) r
   unfolding rockSheet
-  rocks-draw = stamp-draws wide high (markersOn rocks)
+  rocks-draw = stamp-draws 0 wide high (markersOn rocks)
 
   pub closed-draw : Draws wide high C c
   unfolding closedSheet

@@ -42,7 +42,7 @@ same-is (u ∷ us) (v ∷ vs) e =
 
 -- A row's sheets: its rocks, its closed crossings, its region from s to d.
 unfoldable pub rockSheet : List Place → List ℕ
-rockSheet ps = stamp wide high (markersOn ps)
+rockSheet ps = stamp wide high 0 (markersOn ps)
 
 unfoldable pub closedSheet : List Place → List ℕ
 closedSheet ps = closing wide high (rockSheet ps)

@@ -6,7 +6,7 @@ use mathlib.Core.List.{List, [], _∷_}
 use Rattle.field.specs.Table.{Row, EveryRow, none, one}
 use Rattle.field.specs.Workings.Tests.{and-split}
 use Rattle.field.specs.Workings.RowLaws.{passes-holds}
-use Rattle.field.specs.Map.{gap, no-distance}
+use Rattle.field.specs.Map.{gap, no-distance, tallest}
 use Rattle.field.specs.Labels.{sumTo}
 use Rattle.field.specs.Chooser.{drawn, top}
 use Rattle.field.specs.Workings.Sheet.{lit, westOf, southOf, around, row, rowsFrom, sheet}
@@ -20,7 +20,7 @@ use Rattle.field.specs.Workings.Reaching.{reachNext, reach, onWay, regio
 use Rattle.field.specs.Workings.RowTests.{same, rockSheet, closedSheet, regionSheet, eachAlone, distance-at, same-answer, passes}
 
 unfoldable pub all-pass : List Row → Bool
-unfolding gap no-distance sumTo drawn top lit westOf southOf around row rowsFrom sheet closing until sweep next marks stamp rockOf stands labelling labelsFrom tally cornerOf groupsOf every rectangleOf litAlong look clearOf distancesOf enoughOf axisOf openOf assuredOf hopTo eastWestOf northSouthOf hopOf reachNext reach onWay regionOf eastWestIn northSouthIn chosenOf driveOf same rockSheet closedSheet regionSheet alone eachAlone distance-at same-answer passes
+unfolding gap no-distance tallest sumTo drawn top lit westOf southOf around row rowsFrom sheet closing until sweep next marks stamp rockOf stands labelling labelsFrom tally cornerOf groupsOf every rectangleOf litAlong look clearOf distancesOf enoughOf axisOf openOf assuredOf hopTo eastWestOf northSouthOf hopOf reachNext reach onWay regionOf eastWestIn northSouthIn chosenOf driveOf same rockSheet closedSheet regionSheet alone eachAlone distance-at same-answer passes
 all-pass [] = true
 all-pass (r ∷ rs) = passes r && all-pass rs
 

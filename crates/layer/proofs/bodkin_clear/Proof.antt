@@ -16,7 +16,7 @@ use Rattle.records.proofs.clear.Symbol as clear-def
 use Rattle.records.proofs.clear.Symbol.{name as #clear}
 use Rattle.records.proofs.clear.Met as clear-thm
 use Rattle.calls.specs.Rules
-use Rattle.calls.specs.Rules.{Gives, lentMap}
+use Rattle.calls.specs.Rules.{Gives, lentList}
 use Rattle.judging.specs.declared.Sought.{Sought}
 use Rattle.judging.proofs.Sought as S
 use Rattle.judging.proofs.Sought.Laws as S′
@@ -73,7 +73,7 @@ module _ {M : Type 1} (𝓤 : URA M) (H : Heap 𝓤) (A : Atoms 𝓤) (W : Given
   abbrev Δ : List Marker → List (Item 𝓤)
   Δ zs = ‵ (mutOwn κ T.the-row i o γ zs (vlist ∷ [])) ∷ ‵ (flft κ q) ∷ []
 
-  exits : (n c : ℕ) (zs : List Marker) → IsCounted n c → length zs ≡ length ys → ClearCall (lentMap ys count w h) id zs (counted n c) → ent 𝓤 (⋆ 𝓤 H A (Δ zs)) (Post (counted-value n c))
+  exits : (n c : ℕ) (zs : List Marker) → IsCounted n c → length zs ≡ length ys → ClearCall (lentList ys count w h) id zs (counted n c) → ent 𝓤 (⋆ 𝓤 H A (Δ zs)) (Post (counted-value n c))
   exits n c zs is len e =
       qed W (Δ zs) ∵ says-last ! T.the-row i o ys zs (vlist ∷ []) len $ nothing ! $ move ! (2 ∷ 0 ∷ []) $ join ! $
       by ! (ends-with W this.ended C₀ here (counted-value n c) (counted n c) (zs, (tt, (tt, (tt, (tt, tt))))) _ refl e
@@ -117,7 +117,7 @@ module _ {M : Type 1} (𝓤 : URA M) (H : Heap 𝓤) (A : Atoms 𝓤) (W : Given
         hands W seek.ended SeekC (to-seek ν δ) (true ∷ false ∷ false ∷ false ∷ false ∷ []) (‵ (flft (ν ∷ []) fullShare) ⊛ ‵ ftrue) refl
         ((num, (refl, fc)), ((num, (refl, fw)), ((num, (refl, fh)), ((num16, (refl, fi)), tt)))) (id⊢ 𝓤 (emp 𝓤)) $
         called ! (fmOf 𝓤 H (W .laws) 𝓣) seek.ended SeekC known-seek (to-seek ν δ) (‵ (flft (ν ∷ []) fullShare) ⊛ ‵ ftrue) refl found-value (EL.tells S.the-type S′.the-laws)
-        (λ r _. Seeks (lentMap ys count w h) id r) (λ _ _. refl)
+        (λ r _. Seeks (lentList ys count w h) id r) (λ _ _. refl)
         (and-then ! (var ! 12 refl) (and-then ! (var ! 4 refl) (and-then ! (var ! 5 refl) (and-then ! (var ! 6 refl) (and-then ! (var ! 7 refl) (no-more !))))))
         (λ found _ sought _. move ! (1 ∷ []) $ drop ! $ split ! $ move ! (1 ∷ []) $ drop ! $ has-shown ! tt T.the-row i o ys (vlist ∷ []) known ν $
         land ! (from ! (stop !)) (init ! 8 refl (found-typed 𝓤 H A W found)) $
@@ -125,16 +125,16 @@ module _ {M : Type 1} (𝓤 : URA M) (H : Heap 𝓤) (A : Atoms 𝓤) (W : Given
         nothing ! $ hands W judged.ended JudgedC (to-judged found) (false ∷ []) (‵ ftrue) refl ((EL.makes S.the-type S′.the-plain 𝓤 H A, found-is found), tt) (id⊢ 𝓤 (emp 𝓤)) $
         called ! (fmOf 𝓤 H (W .laws) 𝓣) judged.ended JudgedC known-judged (to-judged found) (‵ ftrue) refl (vint w8) (uint-tells w8) (λ r _. r ≡ clearNumber found) (λ _ _. refl)
         (and-then ! (var ! 9 refl) (no-more !))
-        (λ n _ e fn. let table : Gives (Rules.clear-table (lentMap ys count w h) id) n = subst (Gives (Rules.clear-table (lentMap ys count w h) id)) (sym e) (clear-gives (lentMap ys count w h) id found sought) in
+        (λ n _ e fn. let table : Gives (Rules.clear-table (lentList ys count w h) id) n = subst (Gives (Rules.clear-table (lentList ys count w h) id)) (sym e) (clear-gives (lentList ys count w h) id found sought) in
         drop ! $ drop ! $ land ! (from ! (stop !)) (init ! 9 refl (tt, record { fits = fn .1 })) $
         sets ! (bin ! (var ! 9 refl) (lit ! tt) tt) 13 refl (tt, tt) $
         unless ! (var ! 13 refl)
         (λ test. let is : IsCounted n 0 = counted-is n 0 (fn .1) (lit< tt) in
         sets ! (agg ! (and-then ! (var ! 9 refl) (and-then ! (lit ! tt) (no-more !)))) 2 refl (counted-typed 𝓤 H A W n 0 is) $ gives ! Post (look ! 2 refl) $
         leaves ! (Δ ys) (held _ ∷ held _ ∷ held _ ∷ held _ ∷ held _ ∷ held _ ∷ held _ ∷ held _ ∷ none ∷ held _ ∷ held _ ∷ held _ ∷ [])
-        (exits n 0 ys is refl (clear-refused (lentMap ys count w h) id n table (not-zero n test))))
+        (exits n 0 ys is refl (clear-refused (lentList ys count w h) id n table (not-zero n test))))
         (λ test. let z : n ≡ 0 = is-zero n test in
-        let may = clear-may (lentMap ys count w h) id n table z (clear-used (lentMap ys count w h) id found sought (sym e ∙ z)) in
+        let may = clear-may (lentList ys count w h) id n table z (clear-used (lentList ys count w h) id found sought (sym e ∙ z)) in
         -- clear, with the list lent on
         relends ! 3 14 15 refl refl refl refl refl (tt, tt) refl refl refl (tt, (tt, (record { fits = room .0 }, tt))) $
         lends ! tt T.the-row i o ys (vlist ∷ []) (λ known ν δ. nothing ! $ move ! (1 ∷ 0 ∷ []) $ join ! $
@@ -147,7 +147,7 @@ module _ {M : Type 1} (𝓤 : URA M) (H : Heap 𝓤) (A : Atoms 𝓤) (W : Given
         let is : IsCounted 0 c = counted-is 0 c (lit< tt) (fr .1) in
         sets ! (agg ! (and-then ! (lit ! tt) (and-then ! (var ! 10 refl) (no-more !)))) 2 refl (counted-typed 𝓤 H A W 0 c is) $ returns ! (look ! 2 refl) $
         leaves ! (Δ (ws .0)) (held _ ∷ held _ ∷ held _ ∷ held _ ∷ held _ ∷ held _ ∷ held _ ∷ held _ ∷ held _ ∷ held _ ∷ held _ ∷ held _ ∷ held _ ∷ held _ ∷ [])
-        (exits 0 c (ws .0) is len (clear-done (lentMap ys count w h) id n table z e′))))))))))
+        (exits 0 c (ws .0) is len (clear-done (lentList ys count w h) id n table z e′))))))))))
 
 module _ {M : Type 1} (𝓤 : URA M) (H : Heap 𝓤) (A : Atoms 𝓤) (W : Given 𝓤 H A) (mem : Memory → SProp 𝓤) (run : Routine → Fun 𝓤) (𝓣 : Tables 𝓤 H)
     (known-seek : Triple 𝓤 (𝓣 .C #seek) (Promised 𝓤 H A seek.ended (seek.clauses 𝓤 H A mem run)))

@@ -16,7 +16,7 @@ use Rattle.layer.proofs.bodkin_distances.Statement as stated
 use Rattle.layer.proofs.bodkin_distances.Code as code
 
 abbrev F : Form
-F = record { widths = w64 ∷ w64 ∷ w64 ∷ w64 ∷ []; lent = []; result = value R.the-row (LL.val R.the-type R′.the-laws) (LL.tells R.the-type R′.the-laws) }
+F = record { widths = w64 ∷ w64 ∷ []; lent = []; result = value R.the-row (LL.val R.the-type R′.the-laws) (LL.tells R.the-type R′.the-laws) }
 
 pub bodkin-distances-spec : {M : Type 1} → stated.statement M
 unfolding code.routine tablesOf
@@ -28,7 +28,7 @@ bodkin-distances-spec 𝓤 H 𝓜 𝓖 𝓡 =
     entered 𝓤 H (tripleOf 𝓤 H A this.signature (this.spec 𝓤 H A (𝓜 .mem) (𝓡 .run))) (tables 𝓤 H 𝓜 𝓡 code.env .C) (tables 𝓤 H 𝓜 𝓡 code.env .Λ) #this code.function (code.unfolded 𝓤 H 𝓜 𝓡)
     (asks-plainly 𝓤 H A W F c c′ code.function (𝓜 .mem) (𝓡 .run) (tablesOf 𝓤 H 𝓜 (tables 𝓤 H 𝓜 𝓡 code.env)) #rest (prepare-known 𝓤 H 𝓜 𝓖 𝓡 code.env code.calls-layer·preparing·prepare)
     (cited 𝓤 H (Promised 𝓤 H A rest.ended c′) 𝓜 𝓡 code.env #rest rest-def.routine code.calls-askings·distances (rest-thm.met 𝓤 H 𝓜 𝓖 𝓡))
-    (record { x = at 2; y = at 3; a = at 2; b = at 3 }) tt (λ _ _. refl) (λ _ _ _ _ fit. ((refl, fit), tt))
+    (record { x = at 0; y = at 1; a = at 0; b = at 1 }) tt (λ _ _. refl) (λ _ _ _ _ fit. ((refl, fit), tt))
     (record {
       stored = λ _ _ _ t. t;
       typed = λ _ r is. LL.lawful R.the-type R′.the-laws 𝓤 H A W .typed r (LL.val R.the-type R′.the-laws r ∷ []) is .0;

@@ -17,7 +17,7 @@ use Rattle.layer.proofs.bodkin_label.Statement as stated
 use Rattle.layer.proofs.bodkin_label.Code as code
 
 abbrev F : Form
-F = record { widths = w64 ∷ w64 ∷ []; lent = []; result = value R.the-row (LL.val R.the-type R′.the-laws) (LL.tells R.the-type R′.the-laws) }
+F = record { widths = []; lent = []; result = value R.the-row (LL.val R.the-type R′.the-laws) (LL.tells R.the-type R′.the-laws) }
 
 pub bodkin-label-spec : {M : Type 1} → stated.statement M
 unfolding code.routine tablesOf

@@ -22,7 +22,7 @@ use Rattle.layer.proofs.bodkin_lines_drive.Statement as stated
 use Rattle.layer.proofs.bodkin_lines_drive.Code as code
 
 abbrev F : Form
-F = record { widths = w64 ∷ w64 ∷ w64 ∷ w64 ∷ w64 ∷ w64 ∷ []; lent = sheet u8 ∷ sheet u16 ∷ cell u32 ∷ []; result = value R.the-row (LL.val R.the-type R′.the-laws) (LL.tells R.the-type R′.the-laws) }
+F = record { widths = w64 ∷ w64 ∷ w64 ∷ w64 ∷ []; lent = sheet u8 ∷ sheet u16 ∷ cell u32 ∷ []; result = value R.the-row (LL.val R.the-type R′.the-laws) (LL.tells R.the-type R′.the-laws) }
 
 pub bodkin-lines-drive-spec : {M : Type 1} → stated.statement M
 unfolding code.routine tablesOf
@@ -35,7 +35,7 @@ bodkin-lines-drive-spec 𝓤 H 𝓜 𝓖 𝓡 =
     entered 𝓤 H (tripleOf 𝓤 H A this.signature (this.spec 𝓤 H A (𝓜 .mem) (𝓡 .run))) (tables 𝓤 H 𝓜 𝓡 code.env .C) (tables 𝓤 H 𝓜 𝓡 code.env .Λ) #this code.function (code.unfolded 𝓤 H 𝓜 𝓡)
     (asks-judging 𝓤 H A W F c c′ code.function (𝓜 .mem) (𝓡 .run) (tablesOf 𝓤 H 𝓜 (tables 𝓤 H 𝓜 𝓡 code.env)) #rest (prepare-known 𝓤 H 𝓜 𝓖 𝓡 code.env code.calls-layer·preparing·prepare)
     (cited 𝓤 H (Promised 𝓤 H A rest.ended c′) 𝓜 𝓡 code.env #rest rest-def.routine code.calls-askings·lines-drive (rest-thm.met 𝓤 H 𝓜 𝓖 𝓡))
-    (record { x = at 2; y = at 3; a = at 4; b = at 5 })
+    (record { x = at 0; y = at 1; a = at 2; b = at 3 })
     1 (w64 ∷ w64 ∷ w64 ∷ []) cⱼ #judge (cited 𝓤 H (Promised 𝓤 H A judge.ended cⱼ) 𝓜 𝓡 code.env #judge judge-def.routine code.calls-judging·fits (judge-thm.met 𝓤 H 𝓜 𝓖 𝓡))
     (λ κs a. (a .1 .1 .0, (a .1 .1 .1 .0, (length (beside F κs a .0 .now), tt))))
     (λ κs a b. (b ≡ true) ↔ OneFit (a .1 .1 .0) (a .1 .1 .1 .0) (length (beside F κs a .0 .now)))

@@ -20,7 +20,7 @@ use Rattle.layer.proofs.bodkin_measure.Statement as stated
 use Rattle.layer.proofs.bodkin_measure.Code as code
 
 abbrev F : Form
-F = record { widths = w64 ∷ w64 ∷ []; lent = sheet u16 ∷ sheet u16 ∷ sheet u16 ∷ sheet u16 ∷ []; result = value u8 (vint w8) (uint-tells w8) }
+F = record { widths = []; lent = sheet u16 ∷ sheet u16 ∷ sheet u16 ∷ sheet u16 ∷ []; result = value u8 (vint w8) (uint-tells w8) }
 
 pub bodkin-measure-spec : {M : Type 1} → stated.statement M
 unfolding code.routine tablesOf

@@ -27,7 +27,7 @@ use Rattle.records.proofs.place_of as place
 use Rattle.records.proofs.place_of.Symbol as place-def
 use Rattle.records.proofs.place_of.Symbol.{name as #place-of}
 use Rattle.records.proofs.place_of.Met as place-thm
-use Rattle.calls.specs.Rules.{lentMap}
+use Rattle.calls.specs.Rules.{lentList}
 use Rattle.judging.specs.declared.Sought.{Sought}
 use Rattle.judging.specs.declared.Sought.the-variants.{BadSize, BadList, NotInUse}
 use Rattle.judging.proofs.Sought as S
@@ -73,7 +73,7 @@ module _ {M : Type 1} (𝓤 : URA M) (H : Heap 𝓤) (A : Atoms 𝓤) (W : Given
   abbrev token : Item 𝓤
   token = ‵ (flft κ q) ⊛ ‵ ftrue
 
-  exits : (r : Sought) → Seeks (lentMap ys count w h) id r → ent 𝓤 (⋆ 𝓤 H A (token ∷ [])) (Post (found-value r))
+  exits : (r : Sought) → Seeks (lentList ys count w h) id r → ent 𝓤 (⋆ 𝓤 H A (token ∷ [])) (Post (found-value r))
   exits r e =
       ends-with W this.ended C₀ here (found-value r) r (tt, (tt, (tt, (tt, (tt, tt))))) _ refl e (false ∷ false ∷ false ∷ false ∷ false ∷ []) token refl
       (refl, (refl, (refl, (refl, (refl, tt))))) (EL.makes S.the-type S′.the-plain 𝓤 H A) (found-is r)
@@ -152,7 +152,7 @@ module _ {M : Type 1} (𝓤 : URA M) (H : Heap 𝓤) (A : Atoms 𝓤) (W : Given
         (λ past.
         sets ! (agg ! (and-then ! (lit ! tt) (no-more !))) 2 refl (found-typed 𝓤 H A W NotInUse) $ move ! (1 ∷ []) $ drop ! $ gives ! Post (look ! 1 refl) $
         leaves ! (token ∷ []) (held _ ∷ held _ ∷ held _ ∷ held _ ∷ held _ ∷ held _ ∷ held _ ∷ held _ ∷ held _ ∷ held _ ∷ [])
-        (exits NotInUse (found-none sides is-formed stands (leb→le count k past))))
+        (exits NotInUse (found-none (lentList ys count w h) sides is-formed stands (leb→le count k past))))
         (λ test. let below : k < count = nleb→lt count k test in
         let size : length ys * marker-size < 2 ^ 63 = room .1 in
         let inside : k < length ys = omega (arith, is-formed .lent) in
@@ -171,7 +171,7 @@ module _ {M : Type 1} (𝓤 : URA M) (H : Heap 𝓤) (A : Atoms 𝓤) (W : Given
         (and-then ! (var ! 14 refl) (and-then ! (var ! 7 refl) (no-more !)))
         (λ r _ met _. drop ! $ drop ! $ land ! (from ! (stop !)) (init ! 1 refl (found-typed 𝓤 H A W r)) $ returns ! (look ! 1 refl) $
         leaves ! (token ∷ []) (held _ ∷ held _ ∷ held _ ∷ held _ ∷ held _ ∷ held _ ∷ held _ ∷ held _ ∷ held _ ∷ held _ ∷ held _ ∷ held _ ∷ held _ ∷ [])
-        (exits r (found-there sides is-formed stands below met)))))))))))
+        (exits r (found-there (lentList ys count w h) sides is-formed stands below met)))))))))))
 
 module _ {M : Type 1} (𝓤 : URA M) (H : Heap 𝓤) (A : Atoms 𝓤) (W : Given 𝓤 H A) (mem : Memory → SProp 𝓤) (run : Routine → Fun 𝓤) (𝓣 : Tables 𝓤 H)
     (known-formed : Triple 𝓤 (𝓣 .C #well-formed) (Promised 𝓤 H A formed.ended (formed.clauses 𝓤 H A mem run)))

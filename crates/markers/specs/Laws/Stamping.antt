@@ -1,6 +1,7 @@
--- A sheet being stamped, marker by marker: its marks are the crossings of the markers passed, each
--- 1 however many stand there. The k-th marker stands on (x k, y k), however the list is lent.
-use mathlib.Core.Path.{_≡_, sym, ap, _∙_}
+-- A sheet being stamped, marker by marker: its marks are the crossings of the markers passed that
+-- count, each 1 however many stand there. The k-th marker stands on (x k, y k), however the list is
+-- lent, and P tells whether it counts.
+use mathlib.Core.Path.{_≡_, sym, ap, subst, _∙_}
 use mathlib.Core.List.{List}
 use Prim.Native.Nat.{ℕ, suc, _+_, _*_, _<_, _≤_}
 use native.Mathlib.Omega.{arith}
@@ -26,37 +27,38 @@ number-one w h x y a b o q e = (omega (arith, ap (λ (i : ℕ). i * w) same), sa
     same : y ≡ b
     same = omega (arith, row-one w x y a b (o .in-x) e, row-one w a b x y (q .in-x) (sym e))
 
--- One of the first k markers stands on (a, b).
-pub record StandsBefore (x y : ℕ → ℕ) (k a b : ℕ) : Type 0 where
+-- One of the first k markers, one that counts, stands on (a, b).
+pub record StandsBefore (x y : ℕ → ℕ) (P : ℕ → Type 0) (k a b : ℕ) : Type 0 where
   pub place : ℕ
   pub below : place < k
   pub x-is : x place ≡ a
   pub y-is : y place ≡ b
+  pub counts : P place
 
-pub record Stamping (w h : ℕ) (x y : ℕ → ℕ) (k : ℕ) (sheet : List ℕ) : Type 0 where
+pub record Stamping (w h : ℕ) (x y : ℕ → ℕ) (P : ℕ → Type 0) (k : ℕ) (sheet : List ℕ) : Type 0 where
   pub size : length sheet ≡ h * w
   pub ones : (i : ℕ) → getD sheet i 0 ≤ 1
-  pub sound : (a b : ℕ) → On w h a b → 0 < at sheet w a b → StandsBefore x y k a b
-  pub complete : (j : ℕ) → j < k → 0 < at sheet w (x j) (y j)
+  pub sound : (a b : ℕ) → On w h a b → 0 < at sheet w a b → StandsBefore x y P k a b
+  pub complete : (j : ℕ) → j < k → P j → 0 < at sheet w (x j) (y j)
 
-pub stamping-start : (w h : ℕ) (x y : ℕ → ℕ) (s t : List ℕ) → length s ≡ h * w → Wiped s t → Stamping w h x y 0 t
-stamping-start w h x y s t l v =
+pub stamping-start : (w h : ℕ) (x y : ℕ → ℕ) (P : ℕ → Type 0) (s t : List ℕ) → length s ≡ h * w → Wiped s t → Stamping w h x y P 0 t
+stamping-start w h x y P s t l v =
     record {
       size = v .size ∙ l;
       ones = λ i. omega (arith, v .zeros i);
       sound = λ a b o m. absurd (omega (arith, m, v .zeros (number w a b)));
-      complete = λ j m. absurd (omega arith);
+      complete = λ j m c. absurd (omega arith);
     }
 
--- One turn stamps the k-th marker's crossing.
-pub stamping-more : {w h k : ℕ} {x y : ℕ → ℕ} {sheet : List ℕ} → On w h (x k) (y k) → Stamping w h x y k sheet
-    → Stamping w h x y (k + 1) (set sheet (number w (x k) (y k)) 1)
-stamping-more {w} {h} {k} {x} {y} {sheet} o s =
+-- A turn whose marker counts stamps its crossing.
+pub stamping-more : {w h k : ℕ} {x y : ℕ → ℕ} {P : ℕ → Type 0} {sheet : List ℕ} → On w h (x k) (y k) → P k → Stamping w h x y P k sheet
+    → Stamping w h x y P (k + 1) (set sheet (number w (x k) (y k)) 1)
+stamping-more {w} {h} {k} {x} {y} {P} {sheet} o c s =
     record {
       size = length-set sheet n 1 ∙ s .size;
       ones = λ i. one i (ℕ-discrete i n);
       sound = λ a b q m. from a b q m (ℕ-discrete (number w a b) n);
-      complete = λ j m. stamped j m (ℕ-discrete (number w (x j) (y j)) n);
+      complete = λ j m d. stamped j m d (ℕ-discrete (number w (x j) (y j)) n);
     }
   where
     n : ℕ
@@ -69,22 +71,39 @@ stamping-more {w} {h} {k} {x} {y} {sheet} o s =
     one i (yes e) = omega (arith, ap (λ (j : ℕ). getD (set sheet n 1) j 0) e, same)
     one i (no e) = omega (arith, getD-set-other sheet n i 1 0 e, s .ones i)
 
-    from : (a b : ℕ) → On w h a b → 0 < at (set sheet n 1) w a b → Dec (number w a b ≡ n) → StandsBefore x y (k + 1) a b
+    from : (a b : ℕ) → On w h a b → 0 < at (set sheet n 1) w a b → Dec (number w a b ≡ n) → StandsBefore x y P (k + 1) a b
     from a b q m (yes e) =
         let f = number-one w h a b (x k) (y k) q o e in
-        record { place = k; below = omega arith; x-is = sym (f .0); y-is = sym (f .1) }
+        record { place = k; below = omega arith; x-is = sym (f .0); y-is = sym (f .1); counts = c }
     from a b q m (no e) =
         let f = s .sound a b q (omega (arith, m, getD-set-other sheet n (number w a b) 1 0 e)) in
-        record { place = f .place; below = omega (arith, f .below); x-is = f .x-is; y-is = f .y-is }
+        record { place = f .place; below = omega (arith, f .below); x-is = f .x-is; y-is = f .y-is; counts = f .counts }
 
-    stamped : (j : ℕ) → j < k + 1 → Dec (number w (x j) (y j) ≡ n) → 0 < at (set sheet n 1) w (x j) (y j)
-    stamped j m (yes e) = omega (arith, ap (λ (i : ℕ). getD (set sheet n 1) i 0) e, same)
-    stamped j m (no e) =
-        omega (arith, getD-set-other sheet n (number w (x j) (y j)) 1 0 e, s .complete j (before j m (ℕ-discrete j k) e))
+    stamped : (j : ℕ) → j < k + 1 → P j → Dec (number w (x j) (y j) ≡ n) → 0 < at (set sheet n 1) w (x j) (y j)
+    stamped j m d (yes e) = omega (arith, ap (λ (i : ℕ). getD (set sheet n 1) i 0) e, same)
+    stamped j m d (no e) =
+        omega (arith, getD-set-other sheet n (number w (x j) (y j)) 1 0 e, s .complete j (before j m (ℕ-discrete j k) e) d)
       where
         before : (i : ℕ) → i < k + 1 → Dec (i ≡ k) → ¬ (number w (x i) (y i) ≡ n) → i < k
         before i l (yes d) f = absurd (f (ap (λ (t : ℕ). number w (x t) (y t)) d))
         before i l (no d) f = omega arith
+
+-- And one whose marker does not count leaves the sheet.
+pub stamping-past : {w h k : ℕ} {x y : ℕ → ℕ} {P : ℕ → Type 0} {sheet : List ℕ} → ¬ P k → Stamping w h x y P k sheet
+    → Stamping w h x y P (k + 1) sheet
+stamping-past {w} {h} {k} {x} {y} {P} {sheet} n s =
+    record {
+      size = s .size;
+      ones = s .ones;
+      sound = λ a b o m.
+          let f = s .sound a b o m in
+          record { place = f .place; below = omega (arith, f .below); x-is = f .x-is; y-is = f .y-is; counts = f .counts };
+      complete = λ j m c. s .complete j (before j m c (ℕ-discrete j k)) c;
+    }
+  where
+    before : (j : ℕ) → j < k + 1 → P j → Dec (j ≡ k) → j < k
+    before j m c (yes e) = absurd (n (subst P e c))
+    before j m c (no e) = omega arith
 
 -- A sheet stamped with 0 and 1 is settled by its rocks: two that draw the same crossings are equal.
 pub stamped-one : (w h : ℕ) (C : ℕ → ℕ → Type 0) {s t : List ℕ} → length s ≡ h * w → length t ≡ h * w → ((i : ℕ) → getD s i 0 ≤ 1)

@@ -16,16 +16,17 @@ use Rattle.markers.specs.Laws.Rising.{RisingIds, id-one}
 use Rattle.markers.specs.Laws.Moves.{cleared-from}
 
 same-itself : (m : Marker) → Same m m
-same-itself m = record { id = refl; x = refl; y = refl }
+same-itself m = record { id = refl; x = refl; y = refl; height = refl }
 
 pub same-dec : (m n : Marker) → Dec (Same m n)
-same-dec m n = go (ℕ-discrete (m .id) (n .id)) (ℕ-discrete (m .x) (n .x)) (ℕ-discrete (m .y) (n .y))
+same-dec m n = go (ℕ-discrete (m .id) (n .id)) (ℕ-discrete (m .x) (n .x)) (ℕ-discrete (m .y) (n .y)) (ℕ-discrete (m .height) (n .height))
   where
-    go : Dec (m .id ≡ n .id) → Dec (m .x ≡ n .x) → Dec (m .y ≡ n .y) → Dec (Same m n)
-    go (yes p) (yes q) (yes r) = yes (record { id = p; x = q; y = r })
-    go (no p) q r = no (λ s. p (s .id))
-    go (yes p) (no q) r = no (λ s. q (s .x))
-    go (yes p) (yes q) (no r) = no (λ s. r (s .y))
+    go : Dec (m .id ≡ n .id) → Dec (m .x ≡ n .x) → Dec (m .y ≡ n .y) → Dec (m .height ≡ n .height) → Dec (Same m n)
+    go (yes p) (yes q) (yes r) (yes t) = yes (record { id = p; x = q; y = r; height = t })
+    go (no p) q r t = no (λ s. p (s .id))
+    go (yes p) (no q) r t = no (λ s. q (s .x))
+    go (yes p) (yes q) (no r) t = no (λ s. r (s .y))
+    go (yes p) (yes q) (yes r) (no t) = no (λ s. t (s .height))
 
 -- Every marker stands in every list some number of times, and no other number.
 pub times-some : (m : Marker) (list : List Marker) → (t : ℕ) × Times m list t

@@ -122,7 +122,7 @@ module _ {M : Type 1} (𝓤 : URA M) (H : Heap 𝓤) (A : Atoms 𝓤) (W : Given
         enters ! (𝓣 .C) (𝓣 .Λ) code.function (vlist ∷ vint w64 count ∷ vint w16 id ∷ []) Post
         ((tt, (tt, (record { fits = room .0 }, tt))), ((tt, record { fits = fc }), ((tt, record { fits = fi }), tt))) (λ bs.
         move ! (13 ∷ 14 ∷ []) $ split ! $ move ! (1 ∷ []) $ drop ! $ move ! (1 ∷ []) $ fsplit ! $ move ! (1 ∷ []) $ drop ! $
-        sets ! (agg ! (and-then ! (lit ! tt) (and-then ! (lit ! tt) (and-then ! (lit ! tt) (no-more !))))) 6 refl (marker-typed 𝓤 H A W blank blank-fits) $
+        sets ! (agg ! (and-then ! (lit ! tt) (and-then ! (lit ! tt) (and-then ! (lit ! tt) (and-then ! (lit ! tt) (no-more !)))))) 6 refl (marker-typed 𝓤 H A W blank blank-fits) $
         sets ! (bin ! (var ! 4 refl) (lit ! tt) pos) 7 refl (tt, record { fits = f₁ }) $
         opens ! tt T.the-row b o ys (vlist ∷ []) (λ known.
         looped ! (ρ known bs) (turn known bs) (count - 1, (blank, (blank-fits, (ys, closing-start ys count id (may .used)))))))

@@ -70,6 +70,7 @@ pub fn may_enter(
     id: u16,
     x: usize,
     y: usize,
+    height: u16,
 ) -> Result<(Marker, usize), u8> {
     let found = seek(list, count, w, h, id)?;
     if !on_map(w, h, (x, y)) || id == 0 {
@@ -85,6 +86,7 @@ pub fn may_enter(
         id,
         x: x as u16,
         y: y as u16,
+        height,
     };
     Ok((marker, place))
 }

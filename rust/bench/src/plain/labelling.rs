@@ -8,13 +8,20 @@ use grainbodkin_sys::{Labelling, Marker};
 /// N words a row, the westmost first, 64 crossings to a word. Row y is row y + 1 here.
 type Rows<const N: usize> = [[u64; N]; SIDE + 2];
 
-/// Labels the map of these markers, which stand on it. A row has as many words as the width needs.
-pub fn label(markers: &[Marker], w: usize, h: usize, sheet: &mut [u8]) -> Labelling {
+/// Labels the map of these markers, which stand on it, for a cart of this clearance. A row has as
+/// many words as the width needs.
+pub fn label(
+    markers: &[Marker],
+    clearance: u16,
+    w: usize,
+    h: usize,
+    sheet: &mut [u8],
+) -> Labelling {
     match w.div_ceil(64) {
-        1 => label_rows::<1>(of_markers(markers), w, h, sheet),
-        2 => label_rows::<2>(of_markers(markers), w, h, sheet),
-        3 => label_rows::<3>(of_markers(markers), w, h, sheet),
-        _ => label_rows::<4>(of_markers(markers), w, h, sheet),
+        1 => label_rows::<1>(of_markers(markers, clearance), w, h, sheet),
+        2 => label_rows::<2>(of_markers(markers, clearance), w, h, sheet),
+        3 => label_rows::<3>(of_markers(markers, clearance), w, h, sheet),
+        _ => label_rows::<4>(of_markers(markers, clearance), w, h, sheet),
     }
 }
 
@@ -28,10 +35,10 @@ pub fn label_bits(bits: &[u8], w: usize, h: usize, sheet: &mut [u8]) -> Labellin
     }
 }
 
-fn of_markers<const N: usize>(markers: &[Marker]) -> Rows<N> {
+fn of_markers<const N: usize>(markers: &[Marker], clearance: u16) -> Rows<N> {
     let mut rocks = [[0; N]; SIDE + 2];
     for m in markers {
-        rocks[m.y as usize + 1][m.x as usize / 64] |= 1 << (m.x % 64);
+        rocks[m.y as usize + 1][m.x as usize / 64] |= u64::from(m.height > clearance) << (m.x % 64);
     }
     rocks
 }

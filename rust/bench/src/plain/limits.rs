@@ -9,6 +9,9 @@ pub const MOST_MARKERS: usize = 8192;
 /// So many crossings a map has at most.
 pub const MOST_CROSSINGS: usize = SIDE * SIDE;
 
+/// The height of a marker that is read from a map file.
+pub const TALLEST: u16 = 65_535;
+
 /// The mark of a distance that there is none.
 pub const NONE: u16 = 65_535;
 

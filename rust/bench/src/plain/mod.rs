@@ -46,8 +46,9 @@ impl Listing for Plain {
         id: u16,
         x: usize,
         y: usize,
+        height: u16,
     ) -> Counted {
-        match judging::may_enter(list, count, w, h, id, x, y) {
+        match judging::may_enter(list, count, w, h, id, x, y, height) {
             Err(refusal) => Counted { refusal, count: 0 },
             Ok((marker, _)) => Counted {
                 refusal: SUCCESS,
@@ -70,7 +71,14 @@ impl Listing for Plain {
 
 impl Layer for Plain {
     #[inline(never)]
-    fn label(list: &[Marker], count: usize, w: usize, h: usize, labels: &mut [u8]) -> Labelling {
+    fn label(
+        list: &[Marker],
+        count: usize,
+        w: usize,
+        h: usize,
+        clearance: u16,
+        labels: &mut [u8],
+    ) -> Labelling {
         match prepare(list, count, w, h, (0, 0), (0, 0), true, labels) {
             Err(refusal) => Labelling {
                 refusal,
@@ -78,7 +86,7 @@ impl Layer for Plain {
                 shut: 0,
                 groups: 0,
             },
-            Ok(markers) => labelling::label(markers, w, h, labels),
+            Ok(markers) => labelling::label(markers, clearance, w, h, labels),
         }
     }
 
@@ -88,6 +96,7 @@ impl Layer for Plain {
         count: usize,
         w: usize,
         h: usize,
+        clearance: u16,
         x: usize,
         y: usize,
         labels: &mut [u8],
@@ -99,7 +108,7 @@ impl Layer for Plain {
                 return Four { refusal, four };
             }
         };
-        labelling::label(markers, w, h, labels);
+        labelling::label(markers, clearance, w, h, labels);
         Four {
             refusal: SUCCESS,
             four: distances::four(labels, w, x, y),
@@ -112,6 +121,7 @@ impl Layer for Plain {
         count: usize,
         w: usize,
         h: usize,
+        clearance: u16,
         labels: &mut [u8],
         east: &mut [u16],
         south: &mut [u16],
@@ -119,7 +129,16 @@ impl Layer for Plain {
         north: &mut [u16],
     ) -> u8 {
         let sheets = [east, south, west, north];
-        measured(list, count, w, h, labels, sheets, distances::measure)
+        measured(
+            list,
+            count,
+            w,
+            h,
+            clearance,
+            labels,
+            sheets,
+            distances::measure,
+        )
     }
 
     #[inline(never)]
@@ -128,6 +147,7 @@ impl Layer for Plain {
         count: usize,
         w: usize,
         h: usize,
+        clearance: u16,
         hx: usize,
         hy: usize,
         x: usize,
@@ -141,7 +161,7 @@ impl Layer for Plain {
                 return Assurance { refusal, assured };
             }
         };
-        labelling::label(markers, w, h, labels);
+        labelling::label(markers, clearance, w, h, labels);
         hops::assurance(labels, w, (hx, hy), (x, y))
     }
 
@@ -151,6 +171,7 @@ impl Layer for Plain {
         count: usize,
         w: usize,
         h: usize,
+        clearance: u16,
         hx: usize,
         hy: usize,
         x: usize,
@@ -163,7 +184,7 @@ impl Layer for Plain {
                 return hops::no_hop(refusal);
             }
         };
-        labelling::label(markers, w, h, labels);
+        labelling::label(markers, clearance, w, h, labels);
         hops::homeward(labels, w, (hx, hy), (x, y))
     }
 
@@ -173,6 +194,7 @@ impl Layer for Plain {
         count: usize,
         w: usize,
         h: usize,
+        clearance: u16,
         sx: usize,
         sy: usize,
         dx: usize,
@@ -187,7 +209,7 @@ impl Layer for Plain {
                 return refusal;
             }
         };
-        labelling::label(markers, w, h, labels);
+        labelling::label(markers, clearance, w, h, labels);
         match region::region(labels, w, (sx, sy), (dx, dy), region) {
             Err(refusal) => refusal,
             Ok(()) => SUCCESS,
@@ -200,6 +222,7 @@ impl Layer for Plain {
         count: usize,
         w: usize,
         h: usize,
+        clearance: u16,
         sx: usize,
         sy: usize,
         dx: usize,
@@ -217,7 +240,7 @@ impl Layer for Plain {
                 return Drove { refusal, length };
             }
         };
-        labelling::label(markers, w, h, labels);
+        labelling::label(markers, clearance, w, h, labels);
         match drives::drive(labels, w, (sx, sy), (dx, dy), region, route, state) {
             Err(refusal) => Drove { refusal, length },
             Ok(length) => Drove {
@@ -233,6 +256,7 @@ impl Layer for Plain {
         count: usize,
         w: usize,
         h: usize,
+        clearance: u16,
         sx: usize,
         sy: usize,
         dx: usize,
@@ -244,7 +268,7 @@ impl Layer for Plain {
             Ok(markers) => markers,
             Err(refusal) => return checks::refused(refusal),
         };
-        labelling::label(markers, w, h, labels);
+        labelling::label(markers, clearance, w, h, labels);
         checks::check(labels, w, (sx, sy), (dx, dy), drawn)
     }
 
@@ -254,6 +278,7 @@ impl Layer for Plain {
         count: usize,
         w: usize,
         h: usize,
+        clearance: u16,
         sx: usize,
         sy: usize,
         dx: usize,
@@ -264,7 +289,7 @@ impl Layer for Plain {
             Ok(markers) => markers,
             Err(refusal) => return lines::none(refusal),
         };
-        labelling::label(markers, w, h, labels);
+        labelling::label(markers, clearance, w, h, labels);
         lines::test(labels, w, (sx, sy), (dx, dy))
     }
 
@@ -274,6 +299,7 @@ impl Layer for Plain {
         count: usize,
         w: usize,
         h: usize,
+        clearance: u16,
         sx: usize,
         sy: usize,
         dx: usize,
@@ -291,7 +317,7 @@ impl Layer for Plain {
                 return Drove { refusal, length };
             }
         };
-        labelling::label(markers, w, h, labels);
+        labelling::label(markers, clearance, w, h, labels);
         match lines::drive(labels, w, (sx, sy), (dx, dy), region, route, state) {
             Err(refusal) => Drove { refusal, length },
             Ok(length) => Drove {
@@ -320,8 +346,15 @@ impl Layer for Plain {
     }
 
     #[inline(never)]
-    fn write(list: &[Marker], count: usize, w: usize, h: usize, out: &mut [u8]) -> WroteMap {
-        match writer::write_list(list, count, w, h, out) {
+    fn write(
+        list: &[Marker],
+        count: usize,
+        w: usize,
+        h: usize,
+        clearance: u16,
+        out: &mut [u8],
+    ) -> WroteMap {
+        match writer::write_list(list, count, w, h, clearance, out) {
             Err(refusal) => WroteMap { refusal, bytes: 0 },
             Ok(bytes) => WroteMap {
                 refusal: SUCCESS,
@@ -373,8 +406,9 @@ impl Listing for Block {
         id: u16,
         x: usize,
         y: usize,
+        height: u16,
     ) -> Counted {
-        match judging::may_enter(list, count, w, h, id, x, y) {
+        match judging::may_enter(list, count, w, h, id, x, y, height) {
             Err(refusal) => Counted { refusal, count: 0 },
             Ok((marker, place)) => Counted {
                 refusal: SUCCESS,
@@ -406,6 +440,7 @@ impl Stack {
         count: usize,
         w: usize,
         h: usize,
+        clearance: u16,
         labels: &mut [u8],
     ) -> Labelling {
         match prepare(list, count, w, h, (0, 0), (0, 0), true, labels) {
@@ -416,7 +451,7 @@ impl Stack {
                 groups: 0,
             },
             Ok(markers) => {
-                records::stamp(markers, w, labels);
+                records::stamp(markers, clearance, w, labels);
                 stack::label(labels, w, h)
             }
         }
@@ -431,6 +466,7 @@ fn measured(
     count: usize,
     w: usize,
     h: usize,
+    clearance: u16,
     labels: &mut [u8],
     sheets: [&mut [u16]; 4],
     by: impl Fn(&[u8], usize, &mut [u16], &mut [u16], &mut [u16], &mut [u16]),
@@ -442,7 +478,7 @@ fn measured(
             return refusal;
         }
     };
-    labelling::label(markers, w, h, labels);
+    labelling::label(markers, clearance, w, h, labels);
     let [east, south, west, north] = sheets;
     by(labels, w, east, south, west, north);
     SUCCESS
@@ -459,6 +495,7 @@ impl Looking {
         count: usize,
         w: usize,
         h: usize,
+        clearance: u16,
         labels: &mut [u8],
         east: &mut [u16],
         south: &mut [u16],
@@ -466,6 +503,15 @@ impl Looking {
         north: &mut [u16],
     ) -> u8 {
         let sheets = [east, south, west, north];
-        measured(list, count, w, h, labels, sheets, distances::look_from_each)
+        measured(
+            list,
+            count,
+            w,
+            h,
+            clearance,
+            labels,
+            sheets,
+            distances::look_from_each,
+        )
     }
 }

@@ -63,6 +63,7 @@ pub fn fill(list: &mut [Marker], bits: &[u8], w: usize, h: usize) {
             id: (k + 1) as u16,
             x: (place % w) as u16,
             y: (h - 1 - place / w) as u16,
+            height: TALLEST,
         };
     }
 }

@@ -59,8 +59,19 @@ pub fn clear_block(list: &mut [Marker], count: usize, place: usize) -> usize {
     count - 1
 }
 
-/// Stamps the rocks: 1 on each crossing with at least one marker, 0 elsewhere.
-pub fn stamp(markers: &[Marker], w: usize, sheet: &mut [u8]) {
+/// Stamps the rocks of a cart of this clearance: 1 on each crossing with at least one marker that
+/// is higher, 0 elsewhere.
+pub fn stamp(markers: &[Marker], clearance: u16, w: usize, sheet: &mut [u8]) {
+    sheet.fill(OPEN);
+    for m in markers {
+        if m.height > clearance {
+            sheet[m.y as usize * w + m.x as usize] = ROCK;
+        }
+    }
+}
+
+/// Stamps every marker, low ones included.
+pub fn stamp_all(markers: &[Marker], w: usize, sheet: &mut [u8]) {
     sheet.fill(OPEN);
     for m in markers {
         sheet[m.y as usize * w + m.x as usize] = ROCK;

@@ -1,27 +1,29 @@
-//! The map writer: P4. The markers are stamped on a sheet first; fewer marks than markers tell that
-//! two share a crossing.
+//! The map writer: P4. The markers are stamped on a sheet first, low ones included; fewer marks than
+//! markers tell that two share a crossing. Then the rocks are.
 use super::judging::prepare;
 use super::limits::*;
 use super::records;
 use grainbodkin_sys::Marker;
 
-/// Writes the list as a map file. Hands back the number of bytes written, or refusal 1, 3, 16 or
-/// 17, which changes none.
+/// Writes the rocks of a cart of this clearance as a map file. Hands back the number of bytes
+/// written, or refusal 1, 3, 16 or 17, which changes none.
 pub fn write_list(
     list: &[Marker],
     count: usize,
     w: usize,
     h: usize,
+    clearance: u16,
     out: &mut [u8],
 ) -> Result<usize, u8> {
     let mut sheet = [OPEN; MOST_CROSSINGS];
     let size = if w <= SIDE && h <= SIDE { w * h } else { 0 };
     let sheet = &mut sheet[..size];
     let markers = prepare(list, count, w, h, (0, 0), (0, 0), true, sheet)?;
-    records::stamp(markers, w, sheet);
+    records::stamp_all(markers, w, sheet);
     if sheet.iter().filter(|&&b| b != OPEN).count() != count {
         return Err(SHARED_CROSSING);
     }
+    records::stamp(markers, clearance, w, sheet);
     write(sheet, w, h, out).ok_or(SHORT_OUTPUT)
 }
 

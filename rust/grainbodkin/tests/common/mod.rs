@@ -1,7 +1,10 @@
 //! What the tests share: lists of markers, and lent memory of which every byte is known.
 #![allow(dead_code)] // each test file uses a part of this
 
-use grainbodkin::{Chooser, Map, Marker, Markers, MarkersRef, Place, Refusal};
+use grainbodkin::{Cart, Chooser, Map, Marker, Markers, MarkersRef, Place, Refusal, TALLEST};
+
+/// "Document 01's examples mean height 65,535 and clearance 0."
+pub const LOWEST: Cart = Cart::LOWEST;
 
 /// Rocks (3,2), (4,3), (5,2), called R.
 pub const R: [(u16, u16); 3] = [(3, 2), (4, 3), (5, 2)];
@@ -18,6 +21,11 @@ pub const R_LABELS: [u8; 64] = [
     0, 0, 0, 0, 0, 0, 0, 0, //
 ];
 
+/// A marker as high as can be.
+pub const fn rock(id: u16, x: u16, y: u16) -> Marker {
+    Marker::new(id, x, y, TALLEST)
+}
+
 pub fn at(x: usize, y: usize) -> Place {
     Place::new(x, y)
 }
@@ -26,17 +34,18 @@ pub fn at(x: usize, y: usize) -> Place {
 pub fn slots(rocks: &[(u16, u16)]) -> Vec<Marker> {
     let ids = 1..;
     ids.zip(rocks)
-        .map(|(id, (x, y))| Marker::new(id, *x, *y))
+        .map(|(id, (x, y))| rock(id, *x, *y))
         .collect()
 }
 
-/// A list lent for a map 8 by 8, all of its slots in use.
+/// A list lent for a map 8 by 8, all of its slots in use, for the lowest cart.
 pub fn eight(slots: &[Marker]) -> MarkersRef<'_> {
     MarkersRef {
         slots,
         count: slots.len(),
         width: 8,
         height: 8,
+        cart: LOWEST,
     }
 }
 
@@ -44,7 +53,7 @@ pub fn eight(slots: &[Marker]) -> MarkersRef<'_> {
 pub fn owned(rocks: &[(u16, u16)]) -> Markers {
     let mut markers = Markers::new(Map::new(8, 8).unwrap(), rocks.len() + 2);
     for marker in slots(rocks) {
-        markers.enter(marker.id, marker.place()).unwrap();
+        markers.enter(marker.id, marker.place(), TALLEST).unwrap();
     }
     markers
 }
@@ -137,16 +146,16 @@ pub const BAD_SIZES: [(usize, usize); 6] = [
 /// Lists that are refused 3 on a map 8 by 8: slots and count.
 pub fn bad_lists() -> Vec<(Vec<Marker>, usize)> {
     let two = |a: Marker, b: Marker| (vec![a, b], 2);
-    let first = Marker::new(4, 1, 1);
-    let many: Vec<Marker> = (1..=8193).map(|id| Marker::new(id, 0, 0)).collect();
+    let first = rock(4, 1, 1);
+    let many: Vec<Marker> = (1..=8193).map(|id| rock(id, 0, 0)).collect();
     vec![
         (slots(&R), 4),
         (slots(&R), usize::MAX),
         (many, 8193),
-        two(Marker::new(0, 1, 1), first),
-        two(first, Marker::new(4, 2, 2)),
-        two(first, Marker::new(3, 2, 2)),
-        two(first, Marker::new(5, 8, 2)),
-        two(first, Marker::new(5, 2, 8)),
+        two(rock(0, 1, 1), first),
+        two(first, rock(4, 2, 2)),
+        two(first, rock(3, 2, 2)),
+        two(first, rock(5, 8, 2)),
+        two(first, rock(5, 2, 8)),
     ]
 }

@@ -1,7 +1,7 @@
 //! Lists and askings as the settled examples need them.
 use independent::asking::{Asking, Labelled};
 use independent::map::{Crossing, Crossings, Map};
-use independent::markers::Marker;
+use independent::markers::{Marker, TALLEST};
 
 /// The map of the settled examples.
 pub const EIGHT: Map = Map {
@@ -22,9 +22,19 @@ pub fn at(x: usize, y: usize) -> Crossing {
     Crossing::new(x, y)
 }
 
+/// "Document 01's examples mean height 65,535 and clearance 0" (Req 08).
+pub fn marker(id: u16, x: u16, y: u16) -> Marker {
+    Marker {
+        id,
+        x,
+        y,
+        height: TALLEST,
+    }
+}
+
 pub fn markers(rocks: &[(u16, u16)]) -> Vec<Marker> {
     let with_ids = rocks.iter().zip(1..);
-    with_ids.map(|(&(x, y), id)| Marker { id, x, y }).collect()
+    with_ids.map(|(&(x, y), id)| marker(id, x, y)).collect()
 }
 
 pub fn set(places: &[(usize, usize)]) -> Crossings {
@@ -32,7 +42,7 @@ pub fn set(places: &[(usize, usize)]) -> Crossings {
 }
 
 pub fn labelled(rocks: &[(u16, u16)]) -> Labelled {
-    Labelled::new(EIGHT, &markers(rocks))
+    Labelled::new(EIGHT, 0, &markers(rocks))
 }
 
 /// The shut crossings.
@@ -40,12 +50,13 @@ pub fn shut(on: &Labelled) -> Crossings {
     on.closed.difference(&on.rocks).copied().collect()
 }
 
-/// An asking on the eight by eight map with every slot in use.
+/// An asking on the eight by eight map with every slot in use, for a cart of no clearance.
 pub fn asking<'a>(list: &'a [Marker], labels: &'a [u8], places: &'a [Crossing]) -> Asking<'a> {
     Asking {
         list,
         count: list.len(),
         map: EIGHT,
+        clearance: 0,
         labels,
         places,
     }

@@ -11,8 +11,8 @@ use independent::markers::{clear, enter, Marker};
 #[test]
 fn two_markers_on_one_crossing() {
     let list = vec![Marker::default(); 3];
-    let first = enter(&list, 0, EIGHT, 9, (2, 2));
-    let second = enter(&first.list, first.count, EIGHT, 4, (2, 2));
+    let first = enter(&list, 0, EIGHT, 9, (2, 2), 1);
+    let second = enter(&first.list, first.count, EIGHT, 4, (2, 2), 2);
     assert_eq!((second.refusal, second.count), (0, 2));
     assert_eq!(
         second.list.iter().map(|m| m.id).collect::<Vec<_>>(),
@@ -20,10 +20,10 @@ fn two_markers_on_one_crossing() {
     );
     let cleared = clear(&second.list, 2, EIGHT, 4);
     assert_eq!((cleared.refusal, cleared.count), (0, 1));
-    let after = label(&cleared.list, 1, EIGHT, &[OLD; 64]);
+    let after = label(&cleared.list, 1, EIGHT, 0, &[OLD; 64]);
     assert_eq!((after.rocks, after.labels[18]), (1, 1));
     // Near markers are two rocks.
-    let near = label(&markers(&[(2, 2), (3, 2)]), 2, EIGHT, &[OLD; 64]);
+    let near = label(&markers(&[(2, 2), (3, 2)]), 2, EIGHT, 0, &[OLD; 64]);
     assert_eq!(near.rocks, 2);
 }
 
@@ -57,15 +57,15 @@ fn one_pass_is_not_finished() {
 #[test]
 fn clearing_opens_again() {
     let list = markers(&[(1, 1), (3, 1)]);
-    let before = label(&list, 2, EIGHT, &[OLD; 64]);
+    let before = label(&list, 2, EIGHT, 0, &[OLD; 64]);
     assert_eq!(before.shut, 1);
     let cleared = clear(&list, 2, EIGHT, 2);
-    let after = label(&cleared.list, cleared.count, EIGHT, &before.labels);
+    let after = label(&cleared.list, cleared.count, EIGHT, 0, &before.labels);
     assert_eq!((after.rocks, after.shut, after.groups), (1, 0, 1));
     assert_eq!(after.labels[EIGHT.number(at(2, 1))], 0);
     // The freed slot is zeros, and used again.
     assert_eq!(cleared.list[1], Marker::default());
-    let again = enter(&cleared.list, cleared.count, EIGHT, 1000, (7, 7));
+    let again = enter(&cleared.list, cleared.count, EIGHT, 1000, (7, 7), 1);
     assert_eq!((again.refusal, again.count), (0, 2));
 }
 
@@ -74,9 +74,9 @@ fn clearing_opens_again() {
 fn top_raster_row_is_north() {
     let after = read(b"P1\n3 2\n100\n010\n", &[Marker::default(); 2]);
     assert_eq!((after.width, after.height, after.count), (3, 2, 2));
-    assert_eq!(after.list[0], Marker { id: 1, x: 0, y: 1 });
-    assert_eq!(after.list[1], Marker { id: 2, x: 1, y: 0 });
-    let written = write(&after.list, 2, Map::new(3, 2), &[OLD; 10]);
+    assert_eq!(after.list[0], marker(1, 0, 1));
+    assert_eq!(after.list[1], marker(2, 1, 0));
+    let written = write(&after.list, 2, Map::new(3, 2), 0, &[OLD; 10]);
     assert_eq!((written.refusal, written.bytes), (0, 9));
     assert_eq!(written.out, b"P4\n3 2\n\x80\x40\x4D");
 }

@@ -8,7 +8,7 @@ use independent::text::label_text;
 
 #[test]
 fn example_1_no_rocks() {
-    let after = label(&[], 0, EIGHT, &[OLD; 64]);
+    let after = label(&[], 0, EIGHT, 0, &[OLD; 64]);
     assert_eq!(
         (after.refusal, after.rocks, after.shut, after.groups),
         (0, 0, 0, 0)
@@ -38,7 +38,7 @@ fn example_6_the_group_of_r() {
     let whole = set(&[(3, 2), (4, 2), (5, 2), (3, 3), (4, 3), (5, 3)]);
     assert_eq!(groups(EIGHT, &on.closed), [whole]);
     assert_eq!(shut(&on), set(&[(4, 2), (3, 3), (5, 3)]));
-    let after = label(&markers(&R), 3, EIGHT, &[OLD; 64]);
+    let after = label(&markers(&R), 3, EIGHT, 0, &[OLD; 64]);
     assert_eq!(
         (after.refusal, after.rocks, after.shut, after.groups),
         (0, 3, 3, 1)
@@ -188,12 +188,12 @@ fn the_longest_distance() {
 #[test]
 fn the_most_drives_are_counted() {
     let map = Map::new(64, 64);
-    let on = independent::asking::Labelled::new(map, &[]);
+    let on = independent::asking::Labelled::new(map, 0, &[]);
     let (s, d) = (at(0, 0), at(63, 63));
     let drives = independent::drives::beginnings(&on, s, d)[&d];
     assert_eq!(drives, 6034934435761406706427864636568328000);
     assert_eq!(region_of(&on, s, d).len(), 4096);
     // On the largest map they are counted by their remainder, and the region is all of it.
-    let on = independent::asking::Labelled::new(Map::new(256, 256), &[]);
+    let on = independent::asking::Labelled::new(Map::new(256, 256), 0, &[]);
     assert_eq!(region_of(&on, s, at(255, 255)).len(), 65_536);
 }

@@ -103,6 +103,7 @@ fn no_slot_comes_last_and_other_slots_stay() {
         id: 9,
         x: 900,
         y: 901,
+        height: 902,
     };
     let three = b"P1 3 1 111";
     let refused = read(three, &[old; 2]);
@@ -119,13 +120,13 @@ fn no_slot_comes_last_and_other_slots_stay() {
 fn writing() {
     let list = markers(&[(0, 0), (8, 1), (0, 0)]);
     let map = Map::new(9, 2);
-    let shared = write(&list, 3, map, &[OLD; 3]);
+    let shared = write(&list, 3, map, 0, &[OLD; 3]);
     assert_eq!((shared.refusal, shared.bytes), (16, 0));
-    let short = write(&list, 2, map, &[OLD; 10]);
+    let short = write(&list, 2, map, 0, &[OLD; 10]);
     assert_eq!((short.refusal, short.out), (17, vec![OLD; 10]));
-    let exact = write(&list, 2, map, &[OLD; 11]);
+    let exact = write(&list, 2, map, 0, &[OLD; 11]);
     assert_eq!(exact.out, b"P4\n9 2\n\x00\x80\x80\x00");
-    let long = write(&list, 2, map, &[OLD; 13]);
+    let long = write(&list, 2, map, 0, &[OLD; 13]);
     assert_eq!((long.bytes, &long.out[11..]), (11, &[OLD; 2][..]));
 }
 

@@ -6,28 +6,27 @@ use independent::drives::drive;
 use independent::hops::hop;
 use independent::labels::label;
 use independent::map::Map;
-use independent::markers::{bad_list, clear, enter, Marker, MOST};
-
-fn marker(id: u16, x: u16, y: u16) -> Marker {
-    Marker { id, x, y }
-}
+use independent::markers::{bad_list, clear, enter, Marker, MOST, TALLEST};
 
 #[test]
 fn sizes() {
     for side in [0, 257, usize::MAX] {
-        assert_eq!(label(&[], 9, Map::new(side, 3), &[]).refusal, 1);
-        assert_eq!(label(&[], 9, Map::new(3, side), &[]).refusal, 1);
+        assert_eq!(label(&[], 9, Map::new(side, 3), 0, &[]).refusal, 1);
+        assert_eq!(label(&[], 9, Map::new(3, side), 0, &[]).refusal, 1);
     }
-    assert_eq!(label(&[], 0, Map::new(256, 256), &[OLD; 65_536]).refusal, 0);
+    assert_eq!(
+        label(&[], 0, Map::new(256, 256), 0, &[OLD; 65_536]).refusal,
+        0
+    );
 }
 
 #[test]
 fn sheets_come_before_the_list() {
     let bad = [marker(0, 0, 0)];
-    let after = label(&bad, 1, EIGHT, &[OLD; 63]);
+    let after = label(&bad, 1, EIGHT, 0, &[OLD; 63]);
     assert_eq!((after.refusal, after.labels), (2, vec![OLD; 63]));
-    assert_eq!(label(&bad, 1, EIGHT, &[OLD; 65]).refusal, 2);
-    assert_eq!(label(&bad, 1, EIGHT, &[OLD; 64]).refusal, 3);
+    assert_eq!(label(&bad, 1, EIGHT, 0, &[OLD; 65]).refusal, 2);
+    assert_eq!(label(&bad, 1, EIGHT, 0, &[OLD; 64]).refusal, 3);
     let (labels, good) = ([OLD; 64], [OLD_NUMBER; 64]);
     for (wrong, length) in [(0, 63), (1, 65), (2, 32), (3, 128)] {
         let other = vec![OLD_NUMBER; length];
@@ -61,7 +60,7 @@ fn lists() {
 #[test]
 fn entering_and_clearing() {
     let list = [marker(3, 0, 0), marker(7, 1, 1), marker(0, 9, 9)];
-    let entered = |count, id, place| enter(&list[..count], 2, EIGHT, id, place);
+    let entered = |count, id, place| enter(&list[..count], 2, EIGHT, id, place, TALLEST);
     assert_eq!(entered(3, 0, (0, 0)).refusal, 4);
     assert_eq!(entered(3, 7, (8, 0)).refusal, 4);
     assert_eq!(entered(3, 7, (0, usize::MAX)).refusal, 4);
@@ -74,8 +73,8 @@ fn entering_and_clearing() {
         [marker(3, 0, 0), marker(5, 2, 6), marker(7, 1, 1)]
     );
     let full: Vec<_> = (1..=9000).map(|id| marker(id, 0, 0)).collect();
-    assert_eq!(enter(&full, MOST, EIGHT, 9999, (0, 0)).refusal, 7);
-    assert_eq!(enter(&full, MOST, EIGHT, 8192, (0, 0)).refusal, 5);
+    assert_eq!(enter(&full, MOST, EIGHT, 9999, (0, 0), 1).refusal, 7);
+    assert_eq!(enter(&full, MOST, EIGHT, 8192, (0, 0), 1).refusal, 5);
 
     let refused = clear(&list, 2, EIGHT, 5);
     assert_eq!((refused.refusal, refused.count), (6, 0));
@@ -85,7 +84,7 @@ fn entering_and_clearing() {
     assert_eq!((cleared.refusal, cleared.count), (0, 1));
     assert_eq!(
         cleared.list,
-        [marker(7, 1, 1), marker(0, 0, 0), marker(0, 9, 9)]
+        [marker(7, 1, 1), Marker::default(), marker(0, 9, 9)]
     );
 }
 
