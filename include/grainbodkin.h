@@ -1,7 +1,7 @@
 /*
  * Grainbodkin: the obstacle layer for carts on a grid of crossings.
  *
- * The sixteen calls of the static library, target/staticlib/liblayer.a. Each call answers by the
+ * The seventeen calls of the static library, target/staticlib/liblayer.a. Each call answers by the
  * lowest refusal that applies, but 19 before 10, or succeeds: for every value of every number and
  * every content of every buffer. What C cannot let a callee check is the caller's part: a pointer
  * stands before its length and points to so many elements, aligned for their type; what a call may
@@ -58,7 +58,7 @@ extern "C" {
 #define BODKIN_PICTURE (17 + 2 * BODKIN_CROSSINGS)
 
 /* The most bytes of stack that a call is held to below its caller. */
-#define BODKIN_STACK 70656
+#define BODKIN_STACK 136192
 
 /*
  * The largest value of a picture of distances: that of one that is written, two bytes a crossing,
@@ -140,6 +140,11 @@ struct bodkin_labelling {
     size_t rocks;  /* crossings with a rock */
     size_t shut;   /* shut crossings */
     size_t groups; /* groups of closed crossings */
+};
+
+struct bodkin_swept {
+    uint8_t refusal;
+    size_t sweeps; /* sweeps that changed something, from the rocks alone */
 };
 
 struct bodkin_four {
@@ -248,6 +253,19 @@ BODKIN_ANSWER
 struct bodkin_labelling bodkin_label(const struct bodkin_marker *list, size_t lent, size_t count,
                                      size_t width, size_t height, uint16_t clearance,
                                      uint8_t *labels, size_t labels_len);
+
+/*
+ * Labels the map sweep by sweep, and hands back the number of sweeps that changed something. In a
+ * sweep all crossings are judged together on the state before it, and those open ones with two or
+ * more closed neighbours become closed; the first sweep starts from the rocks alone. The number is
+ * never more than the shut crossings, and 0 exactly if there are none. The label sheet holds the
+ * labels, the same as bodkin_label leaves.
+ * Refuses 1, 2 or 3; then no byte changes.
+ */
+BODKIN_ANSWER
+struct bodkin_swept bodkin_sweeps(const struct bodkin_marker *list, size_t lent, size_t count,
+                                  size_t width, size_t height, uint16_t clearance,
+                                  uint8_t *labels, size_t labels_len);
 
 /*
  * The four clear distances of (x, y), east, south, west, north: the hops to the nearest closed

@@ -29,6 +29,9 @@ static void structs(void) {
     FIELD(labelling, rocks);
     FIELD(labelling, shut);
     FIELD(labelling, groups);
+    STRUCT(swept);
+    FIELD(swept, refusal);
+    FIELD(swept, sweeps);
     STRUCT(four);
     FIELD(four, refusal);
     FIELD(four, four);

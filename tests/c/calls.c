@@ -88,7 +88,7 @@ static bool all_zero(const uint8_t *bytes) {
 }
 
 /*
- * The ten calls over a list, each as a number from what is asked: its refusal. At a refusal the
+ * Eleven calls over a list, each as a number from what is asked: its refusal. At a refusal the
  * answer's other fields are zeros.
  */
 
@@ -110,6 +110,11 @@ static uint8_t clear(void) {
 static uint8_t label(void) {
     struct bodkin_labelling r = bodkin_label(now.list, q.lent, q.count, q.width, q.height, q.clearance, now.labels, q.labels);
     return zeros(r.refusal, r.rocks | r.shut | r.groups);
+}
+
+static uint8_t sweeps(void) {
+    struct bodkin_swept r = bodkin_sweeps(now.list, q.lent, q.count, q.width, q.height, q.clearance, now.labels, q.labels);
+    return zeros(r.refusal, r.sweeps);
 }
 
 static uint8_t distances(void) {
@@ -156,7 +161,7 @@ static const struct call {
     {"enter", enter, false, true},     {"clear", clear, false, false}, {"label", label, true, false},
     {"distances", distances, true, true}, {"measure", measure, true, false}, {"assured", assured, true, true},
     {"hop", hop, true, true},          {"region", region, true, true}, {"drive", drive, true, true},
-    {"write", write_map, false, false},
+    {"write", write_map, false, false}, {"sweeps", sweeps, true, false},
 };
 
 enum { CALLS = sizeof calls / sizeof *calls };
@@ -350,6 +355,8 @@ static void askings(void) {
     struct bodkin_labelling labelling = bodkin_label(now.list, SLOTS, 3, SIDE, SIDE, q.clearance, now.labels, SHEET);
     expect(labelling.refusal == 0 && labelling.rocks == 3 && labelling.shut == 3 && labelling.groups == 1 && labelled() && only(LABELS),
            "R: three rocks, three shut, one group");
+    struct bodkin_swept swept = bodkin_sweeps(now.list, SLOTS, 3, SIDE, SIDE, q.clearance, now.labels, SHEET);
+    expect(swept.refusal == 0 && swept.sweeps == 1 && labelled() && only(LABELS), "R: one sweep shuts all three");
     struct bodkin_four four = bodkin_distances(now.list, SLOTS, 3, SIDE, SIDE, q.clearance, 0, 2, now.labels, SHEET);
     expect(four.four[0] == 3 && four.four[1] == 65535 && four.four[2] == 65535 && four.four[3] == 65535 && only(LABELS),
            "R: (0,2) has 3, 65535, 65535, 65535");

@@ -47,6 +47,7 @@ static void nothing(void) { refusal = 0; }
 static void enter(void) { refusal = bodkin_enter(LIST, 65535, 0, 0, BODKIN_TALLEST).refusal; }
 static void clear(void) { refusal = bodkin_clear(LIST, 1).refusal; }
 static void label(void) { refusal = bodkin_label(ASKED, LABELS).refusal; }
+static void sweeps(void) { refusal = bodkin_sweeps(ASKED, LABELS).refusal; }
 static void distances(void) { refusal = bodkin_distances(ASKED, 0, 0, LABELS).refusal; }
 static void measure(void) {
     refusal = bodkin_measure(ASKED, LABELS, ways[0], CROSSINGS, ways[1], CROSSINGS, ways[2], CROSSINGS, ways[3], CROSSINGS);
@@ -202,6 +203,7 @@ int main(void) {
     compare("enter", enter, "");
     compare("clear", clear, "");
     compare("label", label, "");
+    compare("sweeps", sweeps, "");
     compare("distances", distances, "");
     compare("measure", measure, "");
     compare("assured", assured, "");

@@ -14,11 +14,13 @@ use Rattle.field.specs.Refusals.{success, no-slot}
 use Rattle.field.specs.Labels.{Closed}
 use Rattle.field.specs.Distances.{Distances, eastward, southward, westward, northward, Assured}
 use Rattle.field.specs.Checks.{Finds}
+use Rattle.field.specs.Sweeps.{Sweeps}
 use Rattle.labels.specs.Promise.{Stamped, Stones}
 use Rattle.calls.specs.Rules.{Gives, AnEndClosed, assured-rows, hop-rows, region-rows, drive-rows}
 use Rattle.calls.specs.Parts.{before}
 use Rattle.calls.specs.Answers.{no-labelling, no-four, no-assurance, no-hop, LabelsAfter, LabelNumbers, DistancesAfter, HopsNamed, RegionAfter, RouteAfter}
 use Rattle.calls.specs.declared.Labelling.{Labelling}
+use Rattle.calls.specs.declared.Swept.{Swept}
 use Rattle.calls.specs.declared.Four.{Four}
 use Rattle.calls.specs.declared.Assurance.{Assurance}
 use Rattle.calls.specs.declared.Homeward.{Homeward}
@@ -26,6 +28,7 @@ use Rattle.calls.specs.declared.Drove.{Drove}
 use Rattle.calls.specs.declared.Checked.{Checked}
 use Rattle.calls.specs.declared.CrossingLines.{CrossingLines}
 use Rattle.calls.specs.CheckCall.{check-rows, no-check, finding}
+use Rattle.calls.specs.SweepsCall.{no-sweeps}
 use Rattle.calls.specs.LinesCall.{lines-rows, lines-drive-rows, no-lines-told, LinesTold, LinesRegionAfter, JoinedAfter}
 use Rattle.meetings.specs.declared.Met.{Met}
 use Rattle.meetings.specs.declared.Met.the-variants.{No, Yes}
@@ -66,6 +69,13 @@ pub record LabelRest (n w h : ℕ) (s s′ : List ℕ) (r : Labelling) : Type 0 
   pub labels-after : LabelsAfter (Stones w h s) w h (r .refusal) s s′
   pub refused : ¬ (r .refusal ≡ 0) → r ≡ no-labelling (r .refusal)
   pub done : r .refusal ≡ 0 → LabelNumbers (Stones w h s) w h r
+
+-- the number of sweeps
+pub record SweepsRest (n w h : ℕ) (s s′ : List ℕ) (r : Swept) : Type 0 where
+  pub given : Gives (before n ∷ []) (r .refusal)
+  pub labels-after : LabelsAfter (Stones w h s) w h (r .refusal) s s′
+  pub refused : ¬ (r .refusal ≡ 0) → r ≡ no-sweeps (r .refusal)
+  pub done : r .refusal ≡ 0 → Sweeps (Stones w h s) w h (r .sweeps)
 
 -- the four distances of a crossing
 pub record DistancesRest (n w h x y : ℕ) (s s′ : List ℕ) (r : Four) : Type 0 where

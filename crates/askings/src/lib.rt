@@ -11,12 +11,13 @@ use calls::Drove;
 use calls::Four;
 use calls::Homeward;
 use calls::Labelling;
+use calls::Swept;
 use field::refusals::END_CLOSED;
 use field::refusals::NOT_ASSURED;
 use field::refusals::SUCCESS;
 ghost use Rattle.askings.specs.Promise.{MayLabel, MayAsk, MayAskTwo, MayMeasure, MayDrive};
 ghost use Rattle.askings.specs.Promise.{LabelRest, DistancesRest, MeasureRest, AssuredRest, HopRest, RegionRest, DriveRest, RouteRest, CheckRest};
-ghost use Rattle.askings.specs.Promise.{LinesRest, LinesDriveRest};
+ghost use Rattle.askings.specs.Promise.{LinesRest, LinesDriveRest, SweepsRest};
 use telling::an_end_closed;
 use telling::no_assurance;
 use telling::no_check;
@@ -46,6 +47,24 @@ pub fn label(n: u8, w: usize, h: usize, labels: &mut [u8]) -> Labelling
         rocks: counts.rocks,
         shut: counts.shut,
         groups: counts.groups,
+    }
+}
+
+// Labels the sheet sweep by sweep, and hands back the number of sweeps that changed something.
+pub fn sweeps(n: u8, w: usize, h: usize, labels: &mut [u8]) -> Swept
+    requires { ⌜ MayLabel n w h (now labels) ⌝ }
+    ensures { λ r. ⌜ SweepsRest n w h (now (labels .entry)) (now (labels .exit)) r ⌝ }
+{
+    if n != UNREFUSED {
+        return Swept {
+            refusal: n,
+            sweeps: 0,
+        };
+    }
+    let sweeps = sweeping::sweeps(labels, w, h);
+    Swept {
+        refusal: SUCCESS,
+        sweeps,
     }
 }
 

@@ -19,11 +19,13 @@ pub mod HopCalls
 pub mod LabelCalls
 pub mod DriveCalls
 pub mod CheckCall
+pub mod SweepsCall
 pub mod RouteCalls
 pub mod Agree
 pub mod Unread
 pub mod CheckCalls
 pub mod LinesCalls
+pub mod SweepsCalls
 pub mod Demands
 pub mod ClearanceCalls
 pub mod MoreClearance

@@ -18,6 +18,13 @@ pub struct Labelling {
     pub groups: usize,
 }
 
+// The number of sweeps that changed something, or the refusal.
+#[repr(C)]
+pub struct Swept {
+    pub refusal: u8,
+    pub sweeps: usize,
+}
+
 // The four distances of a crossing, east, south, west, north, or the refusal.
 #[repr(C)]
 pub struct Four {

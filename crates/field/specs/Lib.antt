@@ -1,9 +1,9 @@
--- What document 01 defines. The modules first named, Map to Depots, are meanings: relations in the
+-- What document 01 defines. The modules first named, Map to Sweeps, are meanings: relations in the
 -- document's words, which a reader must believe. Limits has the numbers that the code's constants
--- share with them. Workings compute, and each agrees with its meaning; Geometry and Checked have
--- the theorems that need no code; Table has the settled examples, FurtherTable what they leave
--- open, CheckTable drawn lists, DepotTable depots, LinesTable crossing lines, and StonesTable
--- stones of different heights.
+-- share with them. Workings compute, and each agrees with its meaning; Geometry, Checked and
+-- SweepLaws have the theorems that need no code; Table has the settled examples, FurtherTable what
+-- they leave open, CheckTable drawn lists, DepotTable depots, LinesTable crossing lines,
+-- StonesTable stones of different heights, and SweepTable sweeps.
 pub mod Map
 pub mod Rule
 pub mod Refusals
@@ -17,10 +17,12 @@ pub mod Chooser
 pub mod Checks
 pub mod CrossingLines
 pub mod Depots
+pub mod Sweeps
 pub mod Limits
 pub mod Workings
 pub mod Geometry
 pub mod Checked
+pub mod SweepLaws
 pub mod Table
 pub mod Settled
 pub mod FurtherTable
@@ -33,3 +35,5 @@ pub mod LinesTable
 pub mod LinesSettled
 pub mod StonesTable
 pub mod StonesSettled
+pub mod SweepTable
+pub mod SweepSettled

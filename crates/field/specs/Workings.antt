@@ -10,6 +10,7 @@ pub mod Labelling
 pub mod Counting
 pub mod MarkTally
 pub mod Corners
+pub mod Sweeping
 pub mod Looking
 pub mod AxisLaws
 pub mod GridLaws

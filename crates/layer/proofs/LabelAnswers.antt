@@ -1,5 +1,5 @@
--- Labelling, distances, assurance, hops, checks and crossing lines: what the second part tells of a
--- stamped sheet is what the call promises of the list.
+-- Labelling, sweeps, distances, assurance, hops, checks and crossing lines: what the second part
+-- tells of a stamped sheet is what the call promises of the list.
 use mathlib.Core.Path.{_≡_, refl}
 use mathlib.Core.Bool.{Bool, true, false}
 use mathlib.Core.List.{List, [], _∷_}
@@ -8,8 +8,9 @@ use Prim.Native.Nat.{ℕ}
 use native.Mathlib.Omega.{arith}
 use lib.Dec.{lit<}
 use lib.ListN.{length}
-use Rattle.field.specs.Workings.SameLaws.{Alike, alike-back, distances-same, assured-same}
+use Rattle.field.specs.Workings.SameLaws.{Alike, alike-back, distances-same, assured-same, sweeps-same}
 use Rattle.calls.specs.declared.Labelling.{Labelling}
+use Rattle.calls.specs.declared.Swept.{Swept}
 use Rattle.calls.specs.declared.Four.{Four}
 use Rattle.calls.specs.declared.Assurance.{Assurance}
 use Rattle.calls.specs.declared.Homeward.{Homeward}
@@ -21,8 +22,9 @@ use Rattle.calls.specs.RuleLaws.{Reworded}
 use Rattle.calls.specs.SameLaws.{numbers-same, distances-after-same, hops-named-same, finds-same, lines-told-same, assured-rows-same, hop-rows-same}
 use Rattle.calls.specs.Calls.{LabelCall, DistancesCall, MeasureCall, AssuredCall, HopCall}
 use Rattle.calls.specs.CheckCall.{CheckCall, check-rows}
+use Rattle.calls.specs.SweepsCall.{SweepsCall}
 use Rattle.calls.specs.LinesCall.{LinesCall, lines-rows}
-use Rattle.askings.specs.Promise.{ClosedOn, MayLabel, MayAsk, MayAskTwo, MayMeasure, LabelRest, DistancesRest, MeasureRest, AssuredRest, HopRest, CheckRest, LinesRest}
+use Rattle.askings.specs.Promise.{ClosedOn, MayLabel, MayAsk, MayAskTwo, MayMeasure, LabelRest, SweepsRest, DistancesRest, MeasureRest, AssuredRest, HopRest, CheckRest, LinesRest}
 use Rattle.judging.specs.Judging.{FourFit}
 use Rattle.layer.specs.Prepared.{Prepared}
 use Rattle.layer.proofs.Tables.{not-no}
@@ -52,6 +54,16 @@ module _ {m : LentMap} {labels s : List ℕ} {n : ℕ} where
           labels-after = q .labels-after;
           refused = e .refused;
           done = λ z. numbers-same (m .width) (m .height) (stones-alike p (q .passed (none-early z))) (e .done z);
+        }
+
+    pub sweeps-joined : {t : List ℕ} {r : Swept} → SweepsRest n (m .width) (m .height) s t r → SweepsCall m labels t r
+    sweeps-joined e =
+        let q = joined p [] [] tt none-tell (no-place m) [] [] tt (λ _. tt) (e .given) (e .labels-after) in
+        record {
+          given = q .given;
+          labels-after = q .labels-after;
+          refused = e .refused;
+          done = λ z. sweeps-same (m .width) (m .height) (stones-alike p (q .passed (none-early z))) (e .done z);
         }
 
   module _ {x y : ℕ} (p : Prepared m false x y x y true labels s n) where

@@ -14,6 +14,7 @@ use calls::Drove;
 use calls::Four;
 use calls::Homeward;
 use calls::Labelling;
+use calls::Swept;
 use field::Marker;
 use field::refusals::SUCCESS;
 use judging::Sought;
@@ -21,6 +22,7 @@ use preparing::prepare;
 ghost use Rattle.calls.specs.Rules.{lentMap, lentList};
 ghost use Rattle.calls.specs.Calls.{EnterCall, ClearCall, LabelCall, DistancesCall, MeasureCall, AssuredCall, HopCall, RegionCall, DriveCall};
 ghost use Rattle.calls.specs.CheckCall.{CheckCall};
+ghost use Rattle.calls.specs.SweepsCall.{SweepsCall};
 ghost use Rattle.calls.specs.LinesCall.{LinesCall, LinesDriveCall};
 ghost use Rattle.layer.specs.Prepared.{Seeks};
 
@@ -128,6 +130,36 @@ pub extern "C" fn bodkin_label(
         labels,
     );
     askings::label(n, w, h, labels)
+}
+
+// Labels the map sweep by sweep. Hands back the number of sweeps that changed something, or the
+// refusal: 1, 2 or 3.
+#[no_mangle]
+pub extern "C" fn bodkin_sweeps(
+    list: &[Marker],
+    count: usize,
+    w: usize,
+    h: usize,
+    clearance: u16,
+    labels: &mut [u8],
+) -> Swept
+    ensures { λ r. ⌜ SweepsCall (lentMap (now (list .entry)) count w h clearance) (now (labels .entry)) (now (labels .exit)) r ⌝ }
+{
+    let n = prepare(
+        list,
+        count,
+        w,
+        h,
+        clearance,
+        false,
+        0,
+        0,
+        0,
+        0,
+        true,
+        labels,
+    );
+    askings::sweeps(n, w, h, labels)
 }
 
 // The four distances of (x, y), east, south, west, north, or the refusal: 1, 2, 3 or 4.

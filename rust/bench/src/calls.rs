@@ -1,11 +1,11 @@
 //! The calls that are measured, each made so many times over by one side.
 use crate::input::Input;
 use crate::layer::{Layer, Listing};
-use crate::plain::{Looking, Stack};
+use crate::plain::{Looking, Stack, Whole};
 use crate::room::{Room, Window};
 use grainbodkin_sys::{
     Assurance, Checked, Counted, CrossingLines, Drove, Four, Homeward, Labelling, Marker, ReadMap,
-    SheetRead, SheetWritten, WroteMap,
+    SheetRead, SheetWritten, Swept, WroteMap,
 };
 use std::hint::black_box;
 
@@ -14,6 +14,7 @@ use std::hint::black_box;
 #[derive(Clone, Copy, Debug, PartialEq, Eq)]
 pub enum Call {
     Label,
+    Sweeps,
     Measure,
     Distances,
     Assured,
@@ -34,8 +35,9 @@ pub enum Call {
 }
 
 /// Every call with its name.
-pub const CALLS: [(&str, Call); 18] = [
+pub const CALLS: [(&str, Call); 19] = [
     ("label", Call::Label),
+    ("sweeps", Call::Sweeps),
     ("measure", Call::Measure),
     ("distances", Call::Distances),
     ("assured", Call::Assured),
@@ -65,7 +67,7 @@ impl Call {
     /// closed and a drive is left. What is asked for a cart is asked over `stones` too.
     pub fn maps(self) -> &'static [&'static str] {
         match self {
-            Call::Label => &crate::maps::NAMES,
+            Call::Label | Call::Sweeps => &crate::maps::NAMES,
             Call::Measure => &[
                 "empty",
                 "sparse",
@@ -94,6 +96,7 @@ impl Call {
 pub enum Answer {
     Refusal(u8),
     Labelling(Labelling),
+    Swept(Swept),
     Four(Four),
     Assurance(Assurance),
     Homeward(Homeward),
@@ -112,6 +115,7 @@ impl Answer {
         match self {
             Answer::Refusal(n) => *n,
             Answer::Labelling(a) => a.refusal,
+            Answer::Swept(a) => a.refusal,
             Answer::Four(a) => a.refusal,
             Answer::Assurance(a) => a.refusal,
             Answer::Homeward(a) => a.refusal,
@@ -145,6 +149,15 @@ pub fn stack_again(input: &Input, room: &mut Room, times: usize) -> Answer {
     let (w, h, c) = black_box((input.side, input.side, input.clearance));
     let label = || Stack::label(list, n, w, h, c, &mut room.labels);
     Answer::Labelling(again(times, label))
+}
+
+/// Sweeps of whole maps, so many times.
+#[inline(never)]
+pub fn whole_again(input: &Input, room: &mut Room, times: usize) -> Answer {
+    let (list, n) = (black_box(&input.list[..]), input.list.len());
+    let (w, h, c) = black_box((input.side, input.side, input.clearance));
+    let sweeps = || Whole::sweeps(list, n, w, h, c, &mut room.labels);
+    Answer::Swept(again(times, sweeps))
 }
 
 /// The distances of the whole map by looking from each crossing, so many times.
@@ -199,7 +212,7 @@ pub fn repeat<L: Layer>(call: Call, input: &Input, room: &mut Room, times: usize
     }
 }
 
-/// Labels, distances, assurance or hop.
+/// Labels, sweeps, distances, assurance or hop.
 fn ask_again<L: Layer>(call: Call, input: &Input, room: &mut Room, times: usize) -> Answer {
     let (list, n) = (black_box(&input.list[..]), input.list.len());
     let (w, h, c) = black_box((input.side, input.side, input.clearance));
@@ -212,6 +225,7 @@ fn ask_again<L: Layer>(call: Call, input: &Input, room: &mut Room, times: usize)
             let measure = || L::measure(list, n, w, h, c, labels, east, south, west, north);
             Answer::Refusal(again(times, measure))
         }
+        Call::Sweeps => Answer::Swept(again(times, || L::sweeps(list, n, w, h, c, labels))),
         Call::Distances => {
             let distances = || L::distances(list, n, w, h, c, hx, hy, labels);
             Answer::Four(again(times, distances))

@@ -1,8 +1,8 @@
-//! The sixteen calls as both sides have them: over lent slices, with the answers of
+//! The seventeen calls as both sides have them: over lent slices, with the answers of
 //! `grainbodkin-sys`.
 use grainbodkin_sys::{
     Assurance, Checked, Counted, CrossingLines, Drove, Four, Homeward, Labelling, Marker, ReadMap,
-    SheetRead, SheetWritten, WroteMap,
+    SheetRead, SheetWritten, Swept, WroteMap,
 };
 
 /// The two calls that change the list.
@@ -21,7 +21,7 @@ pub trait Listing {
     fn clear(list: &mut [Marker], count: usize, w: usize, h: usize, id: u16) -> Counted;
 }
 
-/// All sixteen.
+/// All seventeen.
 pub trait Layer: Listing {
     fn label(
         list: &[Marker],
@@ -31,6 +31,15 @@ pub trait Layer: Listing {
         clearance: u16,
         labels: &mut [u8],
     ) -> Labelling;
+
+    fn sweeps(
+        list: &[Marker],
+        count: usize,
+        w: usize,
+        h: usize,
+        clearance: u16,
+        labels: &mut [u8],
+    ) -> Swept;
 
     fn distances(
         list: &[Marker],

@@ -5,7 +5,7 @@ use crate::layer::{Layer, Listing};
 use grainbodkin_sys as sys;
 use sys::{
     Assurance, Checked, Counted, CrossingLines, Drove, Four, Homeward, Labelling, Marker, ReadMap,
-    SheetRead, SheetWritten, WroteMap,
+    SheetRead, SheetWritten, Swept, WroteMap,
 };
 
 pub struct Library;
@@ -42,6 +42,29 @@ impl Layer for Library {
         let n = labels.len();
         unsafe {
             sys::bodkin_label(
+                list.as_ptr(),
+                list.len(),
+                count,
+                w,
+                h,
+                clearance,
+                labels.as_mut_ptr(),
+                n,
+            )
+        }
+    }
+
+    fn sweeps(
+        list: &[Marker],
+        count: usize,
+        w: usize,
+        h: usize,
+        clearance: u16,
+        labels: &mut [u8],
+    ) -> Swept {
+        let n = labels.len();
+        unsafe {
+            sys::bodkin_sweeps(
                 list.as_ptr(),
                 list.len(),
                 count,

@@ -7,12 +7,15 @@
 //!         the rows: call, side, map
 //!     bench one CALL SIDE MAP WHICH COUNT
 //!         makes one side's call so many times, for a profile; WHICH is library, plain, or another
-//!         plain method: block, to enter and clear; stack, to label; looking, to measure
+//!         plain method: block, to enter and clear; stack, to label; whole, to sweep; looking, to
+//!         measure
 //!     bench counted CALL...
 //!         makes each row's call once and nine times, on every side, with marks between, for a
 //!         count of instructions; of these calls alone where any are named
 //!     bench show MAP SIDE
-//!         a map and its labels
+//!         a map, its labels, their numbers and that of its sweeps
+//!     bench most SIDE
+//!         a map of this side that takes as many sweeps as any that a search finds
 //!     bench depots PROGRAM
 //!         maps a second of the depots program's whole run beside plain Rust's
 //!     bench plain-depots
@@ -27,10 +30,13 @@ mod library;
 mod maps;
 mod plain;
 mod room;
+mod searching;
 mod streams;
 mod timing;
 
-use calls::{clear_again, enter_again, look_again, repeat, stack_again, Answer, Call, CALLS};
+use calls::{
+    clear_again, enter_again, look_again, repeat, stack_again, whole_again, Answer, Call, CALLS,
+};
 use input::Input;
 use layer::Layer;
 use library::Library;
@@ -40,8 +46,8 @@ use std::process::ExitCode;
 
 const SIDES: [usize; 6] = [8, 16, 32, 64, 128, 256];
 
-/// Up to this side a call's other plain method is made too: past it looking from each crossing
-/// takes too long to be counted.
+/// Up to this side a call's other plain method is made too: past it looking from each crossing, and
+/// sweeping whole maps, take too long to be counted.
 const MOST_OTHER: usize = 64;
 
 fn main() -> ExitCode {
@@ -53,6 +59,7 @@ fn main() -> ExitCode {
         ["counted", ..] => counted(&words[1..]),
         ["one", call, side, map, which, count] => one(call, side, map, which, count),
         ["show", map, side] => show(map, side),
+        ["most", side] => self::side(side).and_then(searching::most),
         ["depots", program] => streams::times(program).map_err(told).ok(),
         ["plain-depots"] => plain::depots::run(std::io::stdin().lock(), std::io::stdout().lock())
             .map_err(told)
@@ -61,7 +68,7 @@ fn main() -> ExitCode {
     };
     if done.is_none() {
         eprintln!(
-            "usage: bench [rows | counted CALL... | one CALL SIDE MAP library|plain|block|stack|looking COUNT | show MAP SIDE | depots PROGRAM | plain-depots]"
+            "usage: bench [rows | counted CALL... | one CALL SIDE MAP library|plain|block|stack|whole|looking COUNT | show MAP SIDE | most SIDE | depots PROGRAM | plain-depots]"
         );
         return ExitCode::FAILURE;
     }
@@ -153,7 +160,7 @@ fn agree(name: &str, call: Call, input: &Input, map: &str) -> Answer {
 type Method = fn(&Input, &mut Room, usize) -> Answer;
 
 /// A call's other plain method and its name: block moves to enter and clear, a stack to label,
-/// looking from each crossing to measure. No other call has one, and none on a large map.
+/// whole maps to sweep, looking from each crossing to measure. No other call has one, and none on a large map.
 fn other(call: Call, side: usize) -> Option<(&'static str, Method)> {
     if side > MOST_OTHER {
         return None;
@@ -162,6 +169,7 @@ fn other(call: Call, side: usize) -> Option<(&'static str, Method)> {
         Call::Enter => Some(("block", enter_again::<Block>)),
         Call::Clear => Some(("block", clear_again::<Block>)),
         Call::Label => Some(("stack", stack_again)),
+        Call::Sweeps => Some(("whole", whole_again)),
         Call::Measure => Some(("looking", look_again)),
         _ => None,
     }
@@ -229,20 +237,16 @@ fn show(map: &str, side: &str) -> Option<()> {
     let rocks = maps::rocks(map, side)?;
     let input = Input::new(map, side)?;
     let mut labels = vec![0; side * side];
-    let counts = Library::label(
-        &input.list,
-        input.list.len(),
-        side,
-        side,
-        input.clearance,
-        &mut labels,
-    );
+    let (list, n, cart) = (&input.list, input.list.len(), input.clearance);
+    let swept = Library::sweeps(list, n, side, side, cart, &mut labels);
+    let counts = Library::label(list, n, side, side, cart, &mut labels);
     println!("{}", maps::show(&rocks, side));
     for row in labels.chunks(side).rev() {
         let signs = row.iter().map(|&b| ['.', '#', 'o'][b as usize]);
         println!("{}", signs.collect::<String>());
     }
     println!("{counts:?}");
+    println!("{swept:?}");
     println!("s, d {:?} {:?}", input.s, input.d);
     println!("home, place {:?} {:?}", input.home, input.place);
     Some(())

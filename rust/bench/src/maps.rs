@@ -2,7 +2,7 @@
 use crate::plain::MOST_MARKERS;
 
 /// Every map's name.
-pub const NAMES: [&str; 13] = [
+pub const NAMES: [&str; 14] = [
     "empty",
     "sparse",
     "dense",
@@ -16,6 +16,7 @@ pub const NAMES: [&str; 13] = [
     "spiral-1",
     "spiral-2",
     "winding",
+    "zigzag",
 ];
 
 /// The map of this name, `side` crossings a side: whether each crossing has a rock, by number.
@@ -26,7 +27,10 @@ pub const NAMES: [&str; 13] = [
 /// `blocks` has squares of four by four rocks with gaps of two, so that much is closed and nothing
 /// is shut. The spirals are a wall of rocks that winds inward, with an open corridor one and two
 /// crossings wide. `winding` has single rocks that wind outward, each two crossings off the
-/// rectangle that those before it close: that is worst for sweeps to the north and to the south.
+/// rectangle that those before it close: so sweeps to the north and to the south take turns.
+/// `zigzag` has a wall along the west edge, and single rocks on the south and north edges by turns,
+/// from which the crossings close to the north and to the south and to the north again: of all
+/// shapes here that takes most sweeps.
 pub fn rocks(name: &str, side: usize) -> Option<Vec<bool>> {
     let each = |rock: fn(usize, usize) -> bool| {
         Some((0..side * side).map(|i| rock(i % side, i / side)).collect())
@@ -44,6 +48,7 @@ pub fn rocks(name: &str, side: usize) -> Option<Vec<bool>> {
         "spiral-1" => Some(spiral(side, 1)),
         "spiral-2" => Some(spiral(side, 2)),
         "winding" => Some(winding(side)),
+        "zigzag" => Some(zigzag(side)),
         _ => None,
     }
 }
@@ -149,6 +154,19 @@ fn winding(side: usize) -> Vec<bool> {
         (east, north) = (east.max(x), north.max(y));
     }
     map
+}
+
+/// A wall along the west edge. A rock beside its south end closes the next column to the north, one
+/// crossing a sweep; a rock on the north edge two columns on, behind a gap of one, closes the next
+/// two to the south; a rock beside their south end the next to the north, and so on.
+fn zigzag(side: usize) -> Vec<bool> {
+    let rock = |x: usize, y: usize| match x % 3 {
+        _ if x == 0 => true,
+        0 => y == side - 1,
+        1 => y == 0,
+        _ => false,
+    };
+    (0..side * side).map(|i| rock(i % side, i / side)).collect()
 }
 
 /// The map as text, rows from the north.

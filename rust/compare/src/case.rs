@@ -3,12 +3,13 @@
 use independent::map::{Crossing, Map};
 use independent::markers::Marker;
 
-/// The sixteen calls.
+/// The seventeen calls.
 #[derive(Clone, Copy, Debug, PartialEq, Eq)]
 pub enum Call {
     Enter,
     Clear,
     Label,
+    Sweeps,
     Distances,
     Measure,
     Assured,
@@ -24,10 +25,11 @@ pub enum Call {
     ReadSheet,
 }
 
-pub const CALLS: [Call; 16] = [
+pub const CALLS: [Call; 17] = [
     Call::Enter,
     Call::Clear,
     Call::Label,
+    Call::Sweeps,
     Call::Distances,
     Call::Measure,
     Call::Assured,
@@ -49,6 +51,7 @@ impl Call {
             Call::Enter => "enter",
             Call::Clear => "clear",
             Call::Label => "label",
+            Call::Sweeps => "sweeps",
             Call::Distances => "distances",
             Call::Measure => "measure",
             Call::Assured => "assured",
@@ -71,6 +74,7 @@ impl Call {
             Call::Enter => &[0, 1, 3, 4, 5, 7],
             Call::Clear => &[0, 1, 3, 6],
             Call::Label => &[0, 1, 2, 3],
+            Call::Sweeps => &[0, 1, 2, 3],
             Call::Distances => &[0, 1, 2, 3, 4],
             Call::Measure => &[0, 1, 2, 3],
             Call::Assured => &[0, 1, 2, 3, 4, 8],
@@ -106,7 +110,7 @@ impl Call {
     pub fn sheets(self) -> usize {
         match self {
             Call::Label | Call::Distances | Call::Assured | Call::Hop | Call::Check => 1,
-            Call::Lines => 1,
+            Call::Lines | Call::Sweeps => 1,
             Call::Region | Call::Drive | Call::LinesDrive => 2,
             Call::Measure => 5,
             _ => 0,

@@ -1,7 +1,9 @@
 //! What the independent program says of a case.
 use crate::case::{After, Call, Case, Memory};
 use independent::asking::Asking;
-use independent::{checks, distances, drives, files, hops, labels, lines, markers, pictures};
+use independent::{
+    checks, distances, drives, files, hops, labels, lines, markers, pictures, sweeps,
+};
 
 /// The independent program's answer and memory after the call.
 pub fn expect(case: &Case) -> After {
@@ -9,6 +11,7 @@ pub fn expect(case: &Case) -> After {
     let (refusal, answer) = match case.call {
         Call::Enter | Call::Clear => counted(case, &mut memory),
         Call::Label => label(case, &mut memory),
+        Call::Sweeps => swept(case, &mut memory),
         Call::Distances => one_crossing(case, &mut memory),
         Call::Measure => measure(case, &mut memory),
         Call::Assured => assured(case, &mut memory),
@@ -69,6 +72,12 @@ fn label(case: &Case, memory: &mut Memory) -> Answer {
         ("groups", after.groups),
     ];
     (after.refusal, answer)
+}
+
+fn swept(case: &Case, memory: &mut Memory) -> Answer {
+    let after = sweeps::sweeps(asking(case));
+    memory.labels = after.labels;
+    (after.refusal, vec![("sweeps", after.sweeps)])
 }
 
 fn one_crossing(case: &Case, memory: &mut Memory) -> Answer {

@@ -12,6 +12,7 @@ pub fn run(case: &Case) -> (After, Vec<&'static str>) {
         Call::Enter => enter(case, &mut lent),
         Call::Clear => clear(case, &mut lent),
         Call::Label => label(case, &mut lent),
+        Call::Sweeps => sweeps(case, &mut lent),
         Call::Distances => distances(case, &mut lent),
         Call::Measure => measure(case, &mut lent),
         Call::Assured => assured(case, &mut lent),
@@ -91,6 +92,22 @@ fn label(case: &Case, lent: &mut Lendings) -> Answer {
         ("groups", after.groups),
     ];
     (after.refusal, answer)
+}
+
+fn sweeps(case: &Case, lent: &mut Lendings) -> Answer {
+    let after = unsafe {
+        sys::bodkin_sweeps(
+            lent.list.pointer(),
+            lent.list.len(),
+            case.count,
+            case.map.width,
+            case.map.height,
+            case.clearance,
+            lent.labels.pointer(),
+            lent.labels.len(),
+        )
+    };
+    (after.refusal, vec![("sweeps", after.sweeps)])
 }
 
 fn distances(case: &Case, lent: &mut Lendings) -> Answer {

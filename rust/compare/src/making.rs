@@ -13,10 +13,11 @@ use crate::stones;
 use independent::map::Map;
 
 /// How often each call is made, by weight.
-const WEIGHTS: [Weighted<Call>; 16] = [
+const WEIGHTS: [Weighted<Call>; 17] = [
     ("enter", 11, Call::Enter),
     ("clear", 11, Call::Clear),
     ("label", 11, Call::Label),
+    ("sweeps", 12, Call::Sweeps),
     ("distances", 11, Call::Distances),
     ("measure", 11, Call::Measure),
     ("assured", 11, Call::Assured),

@@ -41,7 +41,7 @@ pub const SIZES: [Size; 11] = [
 /// A shape: the rocks that it has on a map.
 type Shape = Weighted<fn(&mut Random, Map) -> Vec<Crossing>>;
 
-pub const SHAPES: [Shape; 15] = [
+pub const SHAPES: [Shape; 16] = [
     ("no rocks", 1, |_, _| Vec::new()),
     ("few rocks", 4, |r, map| {
         let rocks = r.between(1, 4);
@@ -64,6 +64,7 @@ pub const SHAPES: [Shape; 15] = [
         keep(map, |c| (c.x + c.y) % 2 == odd)
     }),
     ("spiral", 1, spiral),
+    ("winding", 1, winding),
     ("wall with a gap", 2, wall),
     ("blocks", 4, blocks),
 ];
@@ -157,6 +158,33 @@ fn spiral(random: &mut Random, map: Map) -> Vec<Crossing> {
         .into_iter()
         .map(|(x, y)| Crossing::new(x as usize, y as usize))
         .collect()
+}
+
+/// So many rocks wind outward at most: a map with all that there is room for takes tens of thousands
+/// of sweeps, which the independent program makes over the whole map.
+const WOUND: usize = 48;
+
+/// Single rocks that wind outward from anywhere, each two crossings off the rectangle that those
+/// before it close, at the corner that is closed last: for its size such a map takes many sweeps.
+fn winding(random: &mut Random, map: Map) -> Vec<Crossing> {
+    let start = any(random, map);
+    let (mut west, mut south, mut east, mut north) = (start.x, start.y, start.x, start.y);
+    let mut rocks = vec![start];
+    for leg in 0..random.between(1, WOUND) {
+        let (x, y) = match leg % 4 {
+            0 => (east + 2, south),
+            1 => (east, north + 2),
+            2 => (west.wrapping_sub(2), north),
+            _ => (west, south.wrapping_sub(2)),
+        };
+        if x >= map.width || y >= map.height {
+            break;
+        }
+        rocks.push(Crossing::new(x, y));
+        (west, south) = (west.min(x), south.min(y));
+        (east, north) = (east.max(x), north.max(y));
+    }
+    rocks
 }
 
 /// One whole row or column of rocks but for a gap, so that many pairs have no shortest drive.

@@ -3,7 +3,7 @@ use std::path::PathBuf;
 use std::time::{SystemTime, UNIX_EPOCH};
 
 /// So many cases without a number on the command line.
-const CASES: u64 = 190_000;
+const CASES: u64 = 200_000;
 
 pub struct Options {
     pub cases: u64,

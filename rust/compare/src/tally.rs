@@ -5,6 +5,7 @@ use crate::{drawings, edits, harms, lists, making, mapfiles, maps, picturefiles,
 use independent::asking::Labelled;
 use independent::distances::{is_assured, NONE};
 use independent::drives::region_of;
+use independent::labels::SHUT;
 use independent::lines::lines_of;
 use independent::markers::MOST;
 use std::collections::BTreeMap;
@@ -143,6 +144,7 @@ fn kinds(case: &Case, after: &After) -> Option<&'static str> {
         (Call::Drive, 0, 61..) => Some("answered: a drive of 60 hops or more"),
         (Call::Measure, 0, _) => longest(&after.memory.sheets),
         (Call::Label, 0, _) => many(&after.answer),
+        (Call::Sweeps, 0, sweeps) => Some(swept(sweeps, &after.memory.labels)),
         (Call::Check, 0, reason) => Some(found(reason, after.answer[1].1, case.before.drawn.len())),
         (Call::Enter, 7, _) if case.count < case.before.list.len() => {
             Some("answered: no slot by the limit, though the list has one")
@@ -173,6 +175,29 @@ fn many(answer: &[(&'static str, usize)]) -> Option<&'static str> {
 }
 
 const MANY_CLOSED: &str = "answered: over 4,096 closed crossings";
+
+/// Numbers of sweeps: "never more than the shut crossings. With nothing shut it is 0."
+const SWEPT: [&str; 6] = [
+    "answered: no sweeps, nothing shut",
+    "answered: one sweep, one shut",
+    "answered: as many sweeps as shut crossings, more than one",
+    "answered: one sweep, more shut",
+    "answered: fewer sweeps than shut crossings, more than one",
+    "answered: 100 sweeps or more",
+];
+
+/// By the number and the label sheet.
+fn swept(sweeps: usize, labels: &[u8]) -> &'static str {
+    let shut = labels.iter().filter(|&&label| label == SHUT).count();
+    match sweeps {
+        0 => SWEPT[0],
+        1 if shut == 1 => SWEPT[1],
+        _ if sweeps == shut => SWEPT[2],
+        1 => SWEPT[3],
+        2..=99 => SWEPT[4],
+        _ => SWEPT[5],
+    }
+}
 
 /// Pairs of open places by the two tests: "Either test may say yes where the other says no."
 const TESTS: [&str; 5] = [
@@ -282,6 +307,7 @@ fn names() -> Vec<&'static str> {
     names.extend(stones::KINDS);
     names.extend(stones::CLEARANCES.iter().map(|(name, _, _)| *name));
     names.extend(stones::HEIGHTS.iter().map(|(name, _, _)| *name));
+    names.extend(SWEPT);
     names.extend(TESTS);
     names.extend(MEETINGS);
     names.extend(FOUND);

@@ -1,4 +1,4 @@
-//! The sixteen calls of the proved static library, as `include/grainbodkin.h` declares them. A
+//! The seventeen calls of the proved static library, as `include/grainbodkin.h` declares them. A
 //! slice goes as pointer and length, which counts elements.
 //!
 //! A pointer is not null, even where its length is 0; it is aligned for its type and points to as
@@ -9,7 +9,7 @@
 #![no_std]
 
 /// The most bytes of stack that a call is held to below its caller, as the header's `BODKIN_STACK`.
-pub const STACK: usize = 70_656;
+pub const STACK: usize = 136_192;
 
 /// A rock marker: an id, 1 to 65,535, a crossing, and a height in centimetres. It makes its crossing
 /// a rock for a cart exactly if its height is greater than the cart's clearance.
@@ -38,6 +38,14 @@ pub struct Labelling {
     pub rocks: usize,
     pub shut: usize,
     pub groups: usize,
+}
+
+/// The number of sweeps that changed something, or the refusal.
+#[repr(C)]
+#[derive(Clone, Copy, Debug, PartialEq, Eq)]
+pub struct Swept {
+    pub refusal: u8,
+    pub sweeps: usize,
 }
 
 /// The four distances of a crossing, east, south, west, north, or the refusal.
@@ -165,6 +173,17 @@ extern "C" {
         labels: *mut u8,
         labels_len: usize,
     ) -> Labelling;
+
+    pub fn bodkin_sweeps(
+        list: *const Marker,
+        lent: usize,
+        count: usize,
+        width: usize,
+        height: usize,
+        clearance: u16,
+        labels: *mut u8,
+        labels_len: usize,
+    ) -> Swept;
 
     pub fn bodkin_distances(
         list: *const Marker,

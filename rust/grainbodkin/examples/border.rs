@@ -7,7 +7,7 @@ use grainbodkin::{
 };
 use grainbodkin_sys::{
     Assurance, Checked, Counted, CrossingLines, Drove, Four, Homeward, Labelling, Marker, ReadMap,
-    SheetRead, SheetWritten, WroteMap,
+    SheetRead, SheetWritten, Swept, WroteMap,
 };
 use std::mem::{align_of, offset_of, size_of, size_of_val};
 
@@ -50,6 +50,13 @@ fn main() {
             rocks: 0,
             shut: 0,
             groups: 0
+        }
+    );
+    layout!(
+        "swept",
+        Swept {
+            refusal: 0,
+            sweeps: 0
         }
     );
     layout!(

@@ -32,6 +32,37 @@ impl Markers {
         Ok(Labels::new(self.map(), sheet, numbers))
     }
 
+    /// How many sweeps the labelling takes that change something, starting from the rocks alone. In
+    /// a sweep all crossings are judged together on the state before it, and those open ones with
+    /// two or more closed neighbours become closed. The number is never more than the shut
+    /// crossings, and 0 exactly if there are none.
+    ///
+    /// ```
+    /// use grainbodkin::{Cart, Map, Markers, Place};
+    ///
+    /// let cart = Cart::new(20);
+    /// // A diagonal of four rocks closes a square of four by four: first the crossings beside it,
+    /// // last the two corners farthest from it.
+    /// let mut markers = Markers::new(Map::new(8, 8)?, 4);
+    /// for (id, at) in [(1, 0), (2, 1), (3, 2), (4, 3)] {
+    ///     markers.enter(id, Place::new(at, at), 30)?;
+    /// }
+    /// assert_eq!(markers.sweeps(cart)?, 3);
+    /// assert_eq!(markers.label(cart)?.shut(), 12);
+    ///
+    /// // A cart that passes over the stones has nothing shut.
+    /// assert_eq!(markers.sweeps(Cart::new(30))?, 0);
+    /// # Ok::<(), grainbodkin::Refusal>(())
+    /// ```
+    ///
+    /// # Errors
+    ///
+    /// Passes a refusal of the library on. A list, map and sheet of this type are never at fault,
+    /// so that none of 1, 2 and 3 is given.
+    pub fn sweeps(&self, cart: Cart) -> Result<usize, Refusal> {
+        self.lend(cart).sweeps(&mut self.sheet())
+    }
+
     /// The four clear distances of a crossing.
     ///
     /// # Errors

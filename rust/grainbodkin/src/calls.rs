@@ -1,4 +1,4 @@
-//! The sixteen calls of the static library, lent slices in place of pointers and lengths. All of
+//! The seventeen calls of the static library, lent slices in place of pointers and lengths. All of
 //! the crate's `unsafe` is here.
 //!
 //! The library asks five things of its caller; for all else it answers or refuses. Four hold for
@@ -80,6 +80,23 @@ pub(crate) fn label(list: MarkersRef<'_>, labels: &mut [u8]) -> sys::Labelling {
     // is lent by `&mut`.
     unsafe {
         sys::bodkin_label(
+            pointer(list.slots),
+            list.slots.len(),
+            list.count,
+            list.width,
+            list.height,
+            list.cart.clearance,
+            labels.as_mut_ptr(),
+            labels.len(),
+        )
+    }
+}
+
+pub(crate) fn sweeps(list: MarkersRef<'_>, labels: &mut [u8]) -> sys::Swept {
+    // SAFETY: each pointer stands before its own slice's length. Only `labels` is written, and it
+    // is lent by `&mut`.
+    unsafe {
+        sys::bodkin_sweeps(
             pointer(list.slots),
             list.slots.len(),
             list.count,

@@ -66,6 +66,29 @@ impl MarkersRef<'_> {
         Refusal::or(answer.refusal, numbers)
     }
 
+    /// Labels the map sweep by sweep, and hands back the number of sweeps that changed something.
+    /// [`Markers::sweeps`](crate::Markers::sweeps) tells what a sweep is. `labels` holds the labels.
+    ///
+    /// # Errors
+    ///
+    /// Refuses 1, 2 or 3; then no byte changes.
+    ///
+    /// ```
+    /// use grainbodkin::{Cart, Marker, MarkersRef, Refusal};
+    ///
+    /// // Rocks (0,0), (1,0), (2,0) and (0,1): (1,1) is shut by the first sweep, (2,1) by the second.
+    /// let slots = [(1, 0, 0), (2, 1, 0), (3, 2, 0), (4, 0, 1)].map(|(id, x, y)| Marker::new(id, x, y, 30));
+    /// let list = MarkersRef { slots: &slots, count: 4, width: 3, height: 2, cart: Cart::LOWEST };
+    /// let mut labels = [9; 6];
+    /// assert_eq!(list.sweeps(&mut labels), Ok(2));
+    /// assert_eq!(labels, [1, 1, 1, 1, 2, 2]);
+    /// assert_eq!(list.sweeps(&mut labels[1..]), Err(Refusal::BadSheet));
+    /// ```
+    pub fn sweeps(self, labels: &mut [u8]) -> Result<usize, Refusal> {
+        let answer = calls::sweeps(self, labels);
+        Refusal::or(answer.refusal, answer.sweeps)
+    }
+
     /// The four clear distances of a crossing. `labels` holds the labels.
     ///
     /// # Errors

@@ -1,12 +1,12 @@
 //! Grainbodkin: the obstacle layer for carts on a grid of crossings.
 //!
-//! It keeps a list of rock markers, labels the crossings of one rectangular map, gives clear
-//! distances, tells whether home is assured, gives the region of shortest drives, makes a drive,
-//! checks a drive that was drawn by hand, finds crossing lines and makes the drive by way of where
-//! they meet, gives single hops homeward, reads PBM (plain P1 and raw P4) and writes P4, and writes
-//! sheets of distances as raw PGM pictures and reads them back. The work is done by the proved
-//! static library `liblayer.a`; this crate lends its sixteen calls in Rust's manner, with nothing
-//! `unsafe` in its interface.
+//! It keeps a list of rock markers, labels the crossings of one rectangular map, tells how many
+//! sweeps that takes, gives clear distances, tells whether home is assured, gives the region of
+//! shortest drives, makes a drive, checks a drive that was drawn by hand, finds crossing lines and
+//! makes the drive by way of where they meet, gives single hops homeward, reads PBM (plain P1 and
+//! raw P4) and writes P4, and writes sheets of distances as raw PGM pictures and reads them back.
+//! The work is done by the proved static library `liblayer.a`; this crate lends its seventeen calls
+//! in Rust's manner, with nothing `unsafe` in its interface.
 //!
 //! A journey: read a map, label it, ask whether home is assured, hop home.
 //!

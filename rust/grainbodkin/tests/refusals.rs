@@ -147,9 +147,9 @@ fn a_place_off_the_map_is_refused_4() {
     let slots = slots(&R);
     let off = [at(8, 0), at(0, 8), at(usize::MAX, usize::MAX)];
     for (name, ask) in ASKINGS {
-        // Label and measure ask for no place, and distances only for the one.
+        // Label, sweeps and measure ask for no place, and distances only for the one.
         let ends = match name {
-            "label" | "measure" => continue,
+            "label" | "sweeps" | "measure" => continue,
             "distances" => off.map(|place| (at(0, 0), place)).to_vec(),
             _ => off
                 .iter()

@@ -151,7 +151,10 @@ fn the_greatest_clearance_opens_the_whole_map() {
         let answer = ask(below, at(3, 2), at(5, 6), &mut lent);
         assert_eq!(lent.labels, [1; 64], "{name}");
         let closed = answer == Err(Refusal::EndClosed);
-        assert_eq!(closed, !["label", "distances", "measure"].contains(&name));
+        assert_eq!(
+            closed,
+            !["label", "sweeps", "distances", "measure"].contains(&name)
+        );
     }
 }
 

@@ -22,4 +22,5 @@ pub mod map;
 pub mod markers;
 pub mod pictures;
 pub mod refusals;
+pub mod sweeps;
 pub mod text;

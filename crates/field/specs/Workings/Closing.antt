@@ -57,19 +57,19 @@ module _ (s : List ℕ) (w h : ℕ) where
   unfolding sweep
   sweep-at x y o = sheet-at w h (next s w h) x y o
 
-  sweep-sound : (x y : ℕ) → Marked (sweep w h s) w h x y → Marked s w h x y ⊎ Two s w h x y
+  pub sweep-sound : (x y : ℕ) → Marked (sweep w h s) w h x y → Marked s w h x y ⊎ Two s w h x y
   sweep-sound x y m = next-sound x y (omega (arith, m .mark, sweep-at x y (m .on)))
 
-  sweep-keeps : (x y : ℕ) → Marked s w h x y → Marked (sweep w h s) w h x y
+  pub sweep-keeps : (x y : ℕ) → Marked s w h x y → Marked (sweep w h s) w h x y
   sweep-keeps x y m = record { on = m .on; mark = omega (arith, sweep-at x y (m .on), next-keeps x y m) }
 
-  sweep-adds : (x y a b c d : ℕ) → On w h x y → Near x y a b → Near x y c d → Apart a b c d → Marked s w h a b → Marked s w h c d
+  pub sweep-adds : (x y a b c d : ℕ) → On w h x y → Near x y a b → Near x y c d → Apart a b c d → Marked s w h a b → Marked s w h c d
       → Marked (sweep w h s) w h x y
   sweep-adds x y a b c d o n n′ t m m′ =
       record { on = o; mark = omega (arith, sweep-at x y o, next-two x y (two-around s w h x y a b c d n n′ t m m′)) }
 
 module _ (w h : ℕ) where
-  sweep-length : (s : List ℕ) → length (sweep w h s) ≡ h * w
+  pub sweep-length : (s : List ℕ) → length (sweep w h s) ≡ h * w
   unfolding sweep
   sweep-length s = sheet-length w h (next s w h)
 
@@ -80,11 +80,11 @@ module _ (w h : ℕ) where
       let m : Marked s w h (c .x) (c .y) = record { on = c .on; mark = rw (c .is) p } in
       rw (c .is) at (sweep-keeps s w h (c .x) (c .y) m .mark)
 
-  sweep-marks : (s : List ℕ) → length s ≡ h * w → marks s ≤ marks (sweep w h s)
+  pub sweep-marks : (s : List ℕ) → length s ≡ h * w → marks s ≤ marks (sweep w h s)
   sweep-marks s e = marks-mono s (sweep w h s) (omega (arith, sweep-length s)) (sweep-grows s e)
 
   -- A sheet to which a sweep adds no mark is stable.
-  same-stable : (s : List ℕ) → length s ≡ h * w → marks s ≡ marks (sweep w h s) → Stable w h (Marked s w h)
+  pub same-stable : (s : List ℕ) → length s ≡ h * w → marks s ≡ marks (sweep w h s) → Stable w h (Marked s w h)
   same-stable s e m x y a b c d o n n′ t k k′ =
       record {
         on = o;
@@ -129,7 +129,7 @@ module _ (w h : ℕ) where
 
     module _ (rocks : List ℕ) (D : Draws w h (RockOn R w h) rocks) where
       -- The sheet that the sweeps start from draws the rocks.
-      start-draws : Draws w h (RockOn R w h) (sheet w h (lit rocks w h))
+      pub start-draws : Draws w h (RockOn R w h) (sheet w h (lit rocks w h))
       start-draws =
           sheet-draws w h (RockOn R w h) (lit rocks w h) (λ x y o. lit-drawn w h (RockOn R w h) rocks D x y)
           (λ x y k. (k .on, omega (arith, drawn-lit w h (RockOn R w h) rocks D x y k)))

@@ -1,11 +1,12 @@
 -- Working: how many crossings a sheet marks; and that this is how many there are of what it draws,
 -- however that is decided.
-use mathlib.Core.Path.{_≡_, refl, sym, _∙_}
+use mathlib.Core.Path.{_≡_, refl, sym, ap, _∙_}
 use mathlib.Core.Bool.{Bool, true, false, false≢true}
 use mathlib.Core.List.{List}
 use mathlib.Core.Logic.{_↔_}
-use Prim.Native.Nat.{ℕ, zero, suc, _<_}
+use Prim.Native.Nat.{ℕ, zero, suc, _+_, _<_, _≤_}
 use native.Mathlib.Omega.{arith}
+use native.Mathlib.Decide.{decLt}
 use Rattle.field.specs.Map.{On}
 use Rattle.field.specs.Labels.{sumTo, one, count, Count}
 use Rattle.field.specs.Workings.Tests.{bit}
@@ -20,6 +21,59 @@ pub sum-same : (n : ℕ) (f g : ℕ → ℕ) → ((k : ℕ) → k < n → f k �
 unfolding sumTo
 sum-same zero f g e = refl
 sum-same (suc n) f g e = omega (arith, sum-same n f g (λ k l. e k (omega arith)), e n (omega arith))
+
+-- Sums of numbers that are nowhere less are no less; and where such sums are equal, so are the
+-- numbers.
+pub sum-le : (n : ℕ) (f g : ℕ → ℕ) → ((k : ℕ) → k < n → f k ≤ g k) → sumTo n f ≤ sumTo n g
+unfolding sumTo
+sum-le zero f g l = omega arith
+sum-le (suc n) f g l = omega (arith, sum-le n f g (λ k m. l k (omega arith)), l n (omega arith))
+
+pub sum-le-same : (n : ℕ) (f g : ℕ → ℕ) → ((k : ℕ) → k < n → f k ≤ g k) → sumTo n f ≡ sumTo n g → (k : ℕ) → k < n → f k ≡ g k
+unfolding sumTo
+sum-le-same zero f g l e k m = absurd (omega arith)
+sum-le-same (suc n) f g l e k m = go (decLt k n) (λ i. sum-le-same n f g (λ k m. l k (omega arith)) i k)
+  where
+    below : sumTo n f ≤ sumTo n g
+    below = sum-le n f g (λ k m. l k (omega arith))
+
+    go : Dec (k < n) → (sumTo n f ≡ sumTo n g → k < n → f k ≡ g k) → f k ≡ g k
+    go (yes b) r = r (omega (arith, below, l n (omega arith))) b
+    go (no b) r =
+        let i : n ≡ k = omega arith in
+        let here : f n ≡ g n = omega (arith, below, l n (omega arith)) in
+        ap f (sym i) ∙ here ∙ ap g i
+
+pub sum-plus : (n : ℕ) (f g : ℕ → ℕ) → sumTo n (λ k. f k + g k) ≡ sumTo n f + sumTo n g
+unfolding sumTo
+sum-plus zero f g = refl
+sum-plus (suc n) f g = omega (arith, sum-plus n f g)
+
+-- The same of sums over the map.
+module _ (w h : ℕ) (f g : ℕ → ℕ → ℕ) (l : (x y : ℕ) → x < w → y < h → f x y ≤ g x y) where
+  row-le : (y : ℕ) → y < h → sumTo w (λ x. f x y) ≤ sumTo w (λ x. g x y)
+  row-le y q = sum-le w (λ x. f x y) (λ x. g x y) (λ x p. l x y p q)
+
+  pub tally-le : tally w h f ≤ tally w h g
+  unfolding tally
+  tally-le = sum-le h (λ y. sumTo w (λ x. f x y)) (λ y. sumTo w (λ x. g x y)) row-le
+
+  pub tally-le-same : tally w h f ≡ tally w h g → (x y : ℕ) → x < w → y < h → f x y ≡ g x y
+  unfolding tally
+  tally-le-same e x y p q =
+      sum-le-same w (λ x. f x y) (λ x. g x y) (λ x p. l x y p q)
+      (sum-le-same h (λ y. sumTo w (λ x. f x y)) (λ y. sumTo w (λ x. g x y)) row-le e y q) x p
+
+pub tally-same : (w h : ℕ) (f g : ℕ → ℕ → ℕ) → ((x y : ℕ) → x < w → y < h → f x y ≡ g x y) → tally w h f ≡ tally w h g
+unfolding tally
+tally-same w h f g e = sum-same h _ _ (λ y q. sum-same w _ _ (λ x p. e x y p q))
+
+pub tally-plus : (w h : ℕ) (f g : ℕ → ℕ → ℕ) → tally w h (λ x y. f x y + g x y) ≡ tally w h f + tally w h g
+unfolding tally
+tally-plus w h f g =
+    sum-same h (λ y. sumTo w (λ x. f x y + g x y)) (λ y. sumTo w (λ x. f x y) + sumTo w (λ x. g x y))
+    (λ y l. sum-plus w (λ x. f x y) (λ x. g x y))
+    ∙ sum-plus h (λ y. sumTo w (λ x. f x y)) (λ y. sumTo w (λ x. g x y))
 
 -- A sum over the map is settled by what stands at its crossings.
 pub count-tally : (w h : ℕ) (P : ℕ → ℕ → Type 0) (d : (x y : ℕ) → Dec (P x y)) (f : ℕ → ℕ → ℕ)

@@ -7,7 +7,7 @@ use Prim.Native.Nat.{ℕ, zero, suc, _+_, _<_, _≤_}
 use native.Mathlib.Omega.{arith}
 use native.Mathlib.Decide.{decLt}
 use lib.Dec.{ltb}
-use lib.ListN.{length, getD}
+use lib.ListN.{length, getD, set, take}
 use borrow.Author.Tests.{lt-ltb, le-ltb}
 use Rattle.field.specs.Workings.Tests.{bit, bit-le}
 
@@ -58,3 +58,17 @@ marks-same (u ∷ us) (v ∷ vs) e f m zero l p = go (decLt 0 u)
 marks-same (u ∷ us) (v ∷ vs) e f m (suc i) l p =
     marks-same us vs (omega arith) (λ i l p. f (suc i) (omega arith) p)
     (omega (arith, bit-mono u v (f 0 (omega arith)), marks-mono us vs (omega arith) (λ i l p. f (suc i) (omega arith) p))) i (omega arith) p
+
+-- One mark more.
+pub marks-set : (s : List ℕ) (i v : ℕ) → i < length s → getD s i 0 ≡ 0 → 0 < v → marks (set s i v) ≡ marks s + 1
+unfolding marks
+marks-set [] i v l e p = absurd (omega arith)
+marks-set (u ∷ us) zero v l e p = omega (arith, bit-none u e, bit-one v p)
+marks-set (u ∷ us) (suc i) v l e p = omega (arith, marks-set us i v (omega arith) e p)
+
+-- The marks of the first i bytes, and of one more.
+pub marks-take : (s : List ℕ) (i : ℕ) → i < length s → marks (take (suc i) s) ≡ marks (take i s) + bit (ltb 0 (getD s i 0))
+unfolding marks
+marks-take [] i l = absurd (omega arith)
+marks-take (u ∷ us) zero l = omega arith
+marks-take (u ∷ us) (suc i) l = omega (arith, marks-take us i (omega arith))

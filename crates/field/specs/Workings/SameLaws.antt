@@ -3,7 +3,7 @@
 -- predicates that agree on the map close the same crossings.
 use mathlib.Core.List.{List}
 use mathlib.Core.Logic.{_↔_}
-use Prim.Native.Nat.{ℕ}
+use Prim.Native.Nat.{ℕ, zero, suc}
 use Rattle.field.specs.Map.{On}
 use Rattle.field.specs.Labels.{Closed, rock, between, Open, Shut, RockOn, Label, is-open, is-rock, is-shut, LabelSheet, Count}
 use Rattle.field.specs.Groups.{Linked, here, step, Lowest, Groups}
@@ -12,6 +12,7 @@ use Rattle.field.specs.Hops.{HopAnswer, Permitted, Answers, at-home, jus
 use Rattle.field.specs.Drives.{Drive, last, next, HasDrive, InRegion, InOut, is-in, is-out, RegionSheet}
 use Rattle.field.specs.Chooser.{Candidate, Chosen, alone, east-west, north-south, Driven, arrived, onward}
 use Rattle.field.specs.CrossingLines.{OpenColumn, OpenRow, Lines, HasLines, DrivenBy}
+use Rattle.field.specs.Sweeps.{AfterSweep, stays, closes, State, Rests, Sweeps}
 use Rattle.field.specs.Workings.Counting.{count-moved}
 
 -- C and D have the same crossings.
@@ -180,3 +181,25 @@ module _ (w h : ℕ) {R S : ℕ → ℕ → Type 0} (a : Alike (RockOn R w h) (R
     where
       on : {Q : ℕ → ℕ → Type 0} → Shut Q w h x y → On w h x y
       on {Q} t = Rattle.field.specs.Labels.closed-on-map Q w h x y (t .closed)
+
+-- Rocks that agree on the map take the same sweeps.
+module _ (w h : ℕ) {R S : ℕ → ℕ → Type 0} (a : Alike (RockOn R w h) (RockOn S w h)) where
+  state-same : (n : ℕ) → Alike (State R w h n) (State S w h n)
+  unfolding State
+  state-same zero x y = a x y
+  state-same (suc n) x y = (swept (state-same n), swept (alike-back (state-same n)))
+    where
+      swept : {C D : ℕ → ℕ → Type 0} → Alike C D → AfterSweep w h C x y → AfterSweep w h D x y
+      swept k (stays p) = stays (k x y .0 p)
+      swept k (closes {a} {b} {c} {d} o n m t p q) = closes o n m t (k a b .0 p) (k c d .0 q)
+
+  pub rests-same : (n : ℕ) → Rests R w h n → Rests S w h n
+  rests-same n r x y =
+      let before = state-same n x y in
+      let after = state-same (suc n) x y in
+      (λ p. before .0 (r x y .0 (after .1 p)), λ p. after .0 (r x y .1 (before .1 p)))
+
+module _ (w h : ℕ) {R S : ℕ → ℕ → Type 0} (a : Alike (RockOn R w h) (RockOn S w h)) where
+  pub sweeps-same : {n : ℕ} → Sweeps R w h n → Sweeps S w h n
+  sweeps-same {n} s =
+      record { rests = rests-same w h a n (s .rests); changed = λ m l r. s .changed m l (rests-same w h (alike-back a) m r) }

@@ -1,4 +1,4 @@
-//! The sixteen calls in plain safe Rust, by the library's methods: what the library is measured
+//! The seventeen calls in plain safe Rust, by the library's methods: what the library is measured
 //! against. Same interface, same refusals in the same order, same lent memory. No `unsafe`, nothing
 //! left out and nothing added to slow it down.
 #![forbid(unsafe_code)]
@@ -21,12 +21,13 @@ mod reader;
 mod records;
 mod region;
 mod stack;
+mod sweeping;
 mod writer;
 
 use crate::layer::{Layer, Listing};
 use grainbodkin_sys::{
     Assurance, Checked, Counted, CrossingLines, Drove, Four, Homeward, Labelling, Marker, ReadMap,
-    SheetRead, SheetWritten, WroteMap,
+    SheetRead, SheetWritten, Swept, WroteMap,
 };
 use judging::{fits, prepare};
 use limits::*;
@@ -88,6 +89,18 @@ impl Layer for Plain {
             },
             Ok(markers) => labelling::label(markers, clearance, w, h, labels),
         }
+    }
+
+    #[inline(never)]
+    fn sweeps(
+        list: &[Marker],
+        count: usize,
+        w: usize,
+        h: usize,
+        clearance: u16,
+        labels: &mut [u8],
+    ) -> Swept {
+        swept(list, count, w, h, clearance, labels, sweeping::by_queue)
     }
 
     #[inline(never)]
@@ -455,6 +468,48 @@ impl Stack {
                 stack::label(labels, w, h)
             }
         }
+    }
+}
+
+/// The number of sweeps, whichever way the stamped sheet is swept.
+#[inline(always)]
+fn swept(
+    list: &[Marker],
+    count: usize,
+    w: usize,
+    h: usize,
+    clearance: u16,
+    labels: &mut [u8],
+    by: impl Fn(&mut [u8], usize, usize) -> usize,
+) -> Swept {
+    match prepare(list, count, w, h, (0, 0), (0, 0), true, labels) {
+        Err(refusal) => Swept { refusal, sweeps: 0 },
+        Ok(markers) => {
+            records::stamp(markers, clearance, w, labels);
+            Swept {
+                refusal: SUCCESS,
+                sweeps: by(labels, w, h),
+            }
+        }
+    }
+}
+
+/// Counting sweeps by sweeping the whole map again and again. Not the library's method; it shows
+/// what the queue saves.
+pub struct Whole;
+
+impl Whole {
+    #[inline(never)]
+    pub fn sweeps(
+        list: &[Marker],
+        count: usize,
+        w: usize,
+        h: usize,
+        clearance: u16,
+        labels: &mut [u8],
+    ) -> Swept {
+        let by = sweeping::by_whole_maps;
+        swept(list, count, w, h, clearance, labels, by)
     }
 }
 

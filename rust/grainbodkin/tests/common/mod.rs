@@ -94,8 +94,11 @@ impl Lent {
 pub type Asking = fn(MarkersRef<'_>, Place, Place, &mut Lent) -> Result<(), Refusal>;
 
 /// The askings, by name, but for the check of a drawn list.
-pub const ASKINGS: [(&str, Asking); 9] = [
+pub const ASKINGS: [(&str, Asking); 10] = [
     ("label", |list, _, _, m| list.label(&mut m.labels).map(drop)),
+    ("sweeps", |list, _, _, m| {
+        list.sweeps(&mut m.labels).map(drop)
+    }),
     ("distances", |list, _, place, m| {
         list.distances(place, &mut m.labels).map(drop)
     }),
