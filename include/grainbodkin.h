@@ -330,8 +330,9 @@ uint8_t bodkin_region(const struct bodkin_marker *list, size_t lent, size_t coun
 
 /*
  * A shortest drive from (sx, sy) to (dx, dy): crossing numbers at the front of `route`, s first and
- * d last, drawn from the 32-bit `state`, which moves on. The rest of the route is unchanged. The
- * sheets hold labels and region. A route of BODKIN_ROUTE slots is long enough for every drive.
+ * d last, drawn from the 32-bit `state`, which moves on once for each hop, whatever rocks are
+ * passed; a drive of no hops leaves it. The rest of the route is unchanged. The sheets hold labels
+ * and region. A route of BODKIN_ROUTE slots is long enough for every drive.
  * Refuses 1, 2, 3 or 4, and then no byte changes; or 8, 9 or 10, and then the label sheet holds the
  * labels, the region sheet is unchanged at 8, all 0 at 9, the region at 10, and route and state are
  * unchanged.

@@ -33,6 +33,25 @@ static void enter_r(void) {
     enter(3, 5, 2);
 }
 
+/* A drive from a state, and how many crossings it has. */
+static size_t drive(size_t sx, size_t sy, size_t dx, size_t dy, uint32_t *state) {
+    return bodkin_drive(list, SLOTS, count, SIDE, SIDE, 0, sx, sy, dx, dy, labels, CROSSINGS, region, CROSSINGS, route, CROSSINGS, state).length;
+}
+
+/* Example 11 and document 02's request 13: the state moves on once for every hop. */
+static void a_draw_for_every_hop(void) {
+    static const uint16_t eleven[] = {0, 1, 2, 10}, past[] = {16, 17, 18, 26, 34, 35, 36, 37, 38, 39};
+    uint32_t state = 0, other = 0;
+    count = 0;
+    expect(drive(0, 0, 2, 1, &state) == 4 && memcmp(route, eleven, sizeof eleven) == 0 && state == 0xd1ccf6e9, "example 11, and the state after it");
+    enter_r();
+    state = 0;
+    expect(drive(0, 2, 7, 4, &state) == 10 && memcmp(route, past, sizeof past) == 0 && state == 0x81fdbee7, "past the rocks of R, from (0,2) to (7,4): nine draws");
+    count = 0;
+    expect(drive(7, 7, 0, 5, &other) == 10 && other == state, "another cart, equally far and without rocks, has the same state");
+    expect(drive(3, 3, 3, 3, &other) == 1 && other == state, "a drive of no hops leaves it");
+}
+
 static void example_12(void) {
     uint32_t state = 0;
     count = 0;
@@ -110,6 +129,7 @@ static void way_home(void) {
 }
 
 int main(void) {
+    a_draw_for_every_hop();
     example_12();
     markers_kept_apart();
     shut_on_one_axis();

@@ -162,8 +162,8 @@ static void last_lines(void) {
         bodkin_lines_drive(list, SLOTS, LAST, SIDE, SIDE, 0, 0, LAST, LAST, 0, labels, CROSSINGS,
                            region, CROSSINGS, route, BODKIN_ROUTE, &state);
     expect(drove.refusal == 0 && drove.length == 511 && route[0] == 65280 && route[255] == 65535
-               && route[510] == 255 && state == 7,
-           "the drive by way of them: 511 crossings, by number 65,535, with no draw");
+               && route[510] == 255 && state == 0xe7f46a4d,
+           "the drive by way of them: 511 crossings, by number 65,535, with 510 draws");
     drove = bodkin_lines_drive(list, SLOTS, LAST, SIDE, SIDE, 0, 0, LAST, LAST, 0, labels, CROSSINGS,
                                region, CROSSINGS, route, BODKIN_ROUTE - 1, &state);
     expect(drove.refusal == BODKIN_SHORT_ROUTE && region[CROSSINGS - 1] == 1 && region[0] == 0,

@@ -133,11 +133,11 @@ static void refusals(void) {
 static void example(void) {
     uint32_t z = 0;
     struct bodkin_drove drove = bodkin_lines_drive(rows[0].list, ROCKS, 0, SIDE, SIDE, 0, 0, 0, 2, 1, labels, SHEET, region, SHEET, route, ROUTE, &z);
-    expect(drove.length == 4 && route[0] == 0 && route[1] == 1 && route[2] == 2 && route[3] == 10 && z == 0x47502932, "without rocks, example 11's drive");
+    expect(drove.length == 4 && route[0] == 0 && route[1] == 1 && route[2] == 2 && route[3] == 10 && z == 0xd1ccf6e9, "without rocks, example 11's drive");
     const struct bodkin_marker rock[1] = {{1, 1, 0, 1}};
     z = 5;
     drove = bodkin_lines_drive(rock, 1, 1, SIDE, SIDE, 0, 0, 0, 2, 1, labels, SHEET, region, SHEET, route, ROUTE, &z);
-    expect(drove.length == 4 && route[0] == 0 && route[1] == 8 && route[2] == 9 && route[3] == 10 && z == 5, "round a rock, with no draw");
+    expect(drove.length == 4 && route[0] == 0 && route[1] == 8 && route[2] == 9 && route[3] == 10 && z == 0x3e3a2bd2, "round a rock, with three draws thrown away");
 }
 
 int main(void) {

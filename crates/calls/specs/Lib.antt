@@ -25,6 +25,7 @@ pub mod Agree
 pub mod Unread
 pub mod CheckCalls
 pub mod LinesCalls
+pub mod StateCalls
 pub mod SweepsCalls
 pub mod Demands
 pub mod ClearanceCalls

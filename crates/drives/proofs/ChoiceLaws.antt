@@ -38,10 +38,10 @@ module _ (g : List ℕ) (w h dx dy x y z : ℕ) where
   chosen-high e n t = simp (e, n, ne-eqb (top (drawn z)) 0 t)
 
   pub chosen-row : eastWestIn g w h dx x y ≡ true → northSouthIn g w h dy x y ≡ false
-      → chosenOf g w h dx dy x y z ≡ record { x = hopTo x dx; y = y; state = z }
+      → chosenOf g w h dx dy x y z ≡ record { x = hopTo x dx; y = y; state = drawn z }
   unfolding chosenOf
   chosen-row e n = simp (e, n)
 
-  pub chosen-column : eastWestIn g w h dx x y ≡ false → chosenOf g w h dx dy x y z ≡ record { x = x; y = hopTo y dy; state = z }
+  pub chosen-column : eastWestIn g w h dx x y ≡ false → chosenOf g w h dx dy x y z ≡ record { x = x; y = hopTo y dy; state = drawn z }
   unfolding chosenOf
   chosen-column e = simp e

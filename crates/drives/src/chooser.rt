@@ -28,8 +28,8 @@ pub fn offset(a: usize, b: usize) -> usize
     a - b
 }
 
-// The choice at (x, y) in state z. The candidates are the marked hops towards d: with two, draw,
-// and the top bit 0 takes the east-west one; with one, take it and leave the state.
+// The choice at (x, y) in state z. The candidates are the marked hops towards d. Draw once: with
+// two, the top bit 0 takes the east-west one; with one, take it, and the draw is thrown away.
 pub fn choose(
     g: &[u8],
     w: usize,
@@ -45,9 +45,9 @@ pub fn choose(
 {
     let e = east_west(g, w, h, dx, dy, x, y);
     let n = north_south(g, w, h, dx, dy, x, y);
+    let t = draw(z);
     if e {
         if n {
-            let t = draw(z);
             if t < TOP_BIT {
                 return Choice {
                     x: hop(x, dx),
@@ -64,13 +64,13 @@ pub fn choose(
         return Choice {
             x: hop(x, dx),
             y: y,
-            state: z,
+            state: t,
         };
     }
     Choice {
         x: x,
         y: hop(y, dy),
-        state: z,
+        state: t,
     }
 }
 

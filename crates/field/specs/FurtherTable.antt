@@ -57,7 +57,7 @@ further-table =
     -- Drives. Refusal 9 also where the ends share no row and no column; a longer drive around would
     -- not count.
     ∷ refused-9 R 3 1 4 4
-    -- "From a crossing to itself it has 0 hops", and it is the region; no draw is made.
+    -- "From a crossing to itself it has 0 hops", and it is the region; at d no draw is made.
     ∷ drive R 0 2 0 2 0
     ∷ region R 0 2 0 2 1
     ∷ driven R 0 2 0 2 682 (16 ∷ []) 682
@@ -67,13 +67,14 @@ further-table =
     ∷ region R 3 2 0 2 0
     ∷ region R 0 2 3 2 0
     -- The chooser. Top bit 1 takes the north-south candidate, and it is the new state's: that of
-    -- 682 is 0, and that of 8018d201 hexadecimal 1.
-    ∷ driven [] 0 0 1 1 682 (0 ∷ 8 ∷ 9 ∷ []) 0x8018d201
+    -- 682 is 0, and that of 8018d201 hexadecimal, which is drawn first, 1. The second draw is
+    -- thrown away.
+    ∷ driven [] 0 0 1 1 682 (0 ∷ 8 ∷ 9 ∷ []) 0x2377036c
     -- The same the other way round: the top bit of 800002aa is 1, and that of 18d201 is 0.
-    ∷ driven [] 0 0 1 1 0x800002aa (0 ∷ 1 ∷ 9 ∷ []) 0x18d201
+    ∷ driven [] 0 0 1 1 0x800002aa (0 ∷ 1 ∷ 9 ∷ []) 0xa377036c
     -- To the west and the south.
-    ∷ driven [] 2 1 0 0 682 (10 ∷ 2 ∷ 1 ∷ 0 ∷ []) 0x8018d201
+    ∷ driven [] 2 1 0 0 682 (10 ∷ 2 ∷ 1 ∷ 0 ∷ []) 0xca6327db
     -- A candidate is in the region, not only open and nearer: at (1,1) the north neighbour (1,2) is
-    -- open, but strands, and no draw is made.
-    ∷ driven R 0 0 7 3 2000 (0 ∷ 1 ∷ 9 ∷ 10 ∷ 11 ∷ 12 ∷ 13 ∷ 14 ∷ 15 ∷ 23 ∷ 31 ∷ []) 0x3c6fa2f9
+    -- open, but strands, and it is not taken though the top bit drawn there is 1.
+    ∷ driven R 0 0 7 3 58 (0 ∷ 1 ∷ 9 ∷ 10 ∷ 11 ∷ 12 ∷ 13 ∷ 14 ∷ 22 ∷ 23 ∷ 31 ∷ []) 0xe9ef76a4
     ∷ []

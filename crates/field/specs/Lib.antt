@@ -1,9 +1,10 @@
 -- What document 01 defines. The modules first named, Map to Sweeps, are meanings: relations in the
 -- document's words, which a reader must believe. Limits has the numbers that the code's constants
--- share with them. Workings compute, and each agrees with its meaning; Geometry, Checked and
--- SweepLaws have the theorems that need no code; Table has the settled examples, FurtherTable what
--- they leave open, CheckTable drawn lists, DepotTable depots, LinesTable crossing lines,
--- StonesTable stones of different heights, and SweepTable sweeps.
+-- share with them. Workings compute, and each agrees with its meaning; Geometry, Checked,
+-- Advancing and SweepLaws have the theorems that need no code; Table has the settled examples,
+-- FurtherTable what they leave open, CheckTable drawn lists, DepotTable depots, LinesTable crossing
+-- lines, StonesTable stones of different heights, StateTable states after drives, and SweepTable
+-- sweeps.
 pub mod Map
 pub mod Rule
 pub mod Refusals
@@ -22,6 +23,7 @@ pub mod Limits
 pub mod Workings
 pub mod Geometry
 pub mod Checked
+pub mod Advancing
 pub mod SweepLaws
 pub mod Table
 pub mod Settled
@@ -35,5 +37,7 @@ pub mod LinesTable
 pub mod LinesSettled
 pub mod StonesTable
 pub mod StonesSettled
+pub mod StateTable
+pub mod StateSettled
 pub mod SweepTable
 pub mod SweepSettled

@@ -68,10 +68,11 @@ table =
     ∷ tests R (place 0 2) (place 7 4) (says-yes 0 4) false
     ∷ tests R (place 3 1) (place 7 4) (says-yes 6 1) false
     -- The drive. At (0,0), the meeting crossing, there is nothing to choose; then as in example 11.
-    ∷ joined [] (place 0 0) (place 2 1) 0 0 0 (0 ∷ 1 ∷ 2 ∷ 10 ∷ []) 0x47502932
-    -- "The meeting crossing written once": 8 is (0,1).
-    ∷ joined (place 1 0 ∷ []) (place 0 0) (place 2 1) 0 1 7 (0 ∷ 8 ∷ 9 ∷ 10 ∷ []) 7
-    -- "with the state handed on": one draw before the meeting crossing (1,1), east, and three after
-    -- it, east, north and north. Drawn from state 0 again, the second part would go east twice.
-    ∷ joined inner (place 0 0) (place 3 3) 1 1 0 (0 ∷ 1 ∷ 9 ∷ 10 ∷ 18 ∷ 26 ∷ 27 ∷ []) 0xaaf95334
+    ∷ joined [] (place 0 0) (place 2 1) 0 0 0 (0 ∷ 1 ∷ 2 ∷ 10 ∷ []) 0xd1ccf6e9
+    -- "The meeting crossing written once": 8 is (0,1). Three draws are thrown away (request 13).
+    ∷ joined (place 1 0 ∷ []) (place 0 0) (place 2 1) 0 1 7 (0 ∷ 8 ∷ 9 ∷ 10 ∷ []) 0x9ccc40fc
+    -- "with the state handed on": two draws before the meeting crossing (1,1), east and one thrown
+    -- away, and four after it, north, north and two thrown away. Drawn from state 0 again, the
+    -- second part would go east twice.
+    ∷ joined inner (place 0 0) (place 3 3) 1 1 0 (0 ∷ 1 ∷ 9 ∷ 17 ∷ 25 ∷ 26 ∷ 27 ∷ []) 0x9f2ec686
     ∷ []

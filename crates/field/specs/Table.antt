@@ -154,7 +154,7 @@ table =
     -- 10. "R: region (0,0) to (7,3) has 20 crossings; x 0 to 2 with y 2 or 3 is outside."
     ∷ region R 0 0 7 3 20
     ∷ outside R 0 0 7 3 0 2 2 3
-    -- 11. "No rocks, state 0, (0,0) to (2,1): numbers 0, 1, 2, 10; state after it 47502932
-    -- hexadecimal."
-    ∷ driven [] 0 0 2 1 0 (0 ∷ 1 ∷ 2 ∷ 10 ∷ []) 0x47502932
+    -- 11. "No rocks, state 0, (0,0) to (2,1): numbers 0, 1, 2, 10"; with Req 13 "its end state
+    -- becomes D1CCF6E9."
+    ∷ driven [] 0 0 2 1 0 (0 ∷ 1 ∷ 2 ∷ 10 ∷ []) 0xd1ccf6e9
     ∷ []

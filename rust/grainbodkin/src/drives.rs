@@ -4,9 +4,10 @@ use crate::{Map, Place};
 
 /// The state from which drives are drawn: 32 bits.
 ///
-/// With two candidates the state z becomes 1664525 × z + 1013904223, modulo 4,294,967,296, and its
-/// top bit takes the east-west candidate (0) or the north-south one (1). No draw is made otherwise.
-/// A drive moves the chooser on; a refusal leaves it.
+/// At each hop the state z becomes 1664525 × z + 1013904223, modulo 4,294,967,296. With two
+/// candidates its top bit takes the east-west one (0) or the north-south one (1); with one the draw
+/// is thrown away. So a drive moves the chooser on once for every hop, whatever rocks it passes; a
+/// drive of no hops leaves it, and so does a refusal.
 #[derive(Clone, Copy, Debug, Default, PartialEq, Eq, Hash)]
 pub struct Chooser(
     /// The state.
@@ -81,7 +82,7 @@ impl Region {
 /// assert_eq!(drive.numbers(), [0, 1, 2, 10]);
 /// assert_eq!(drive.hops(), 3);
 /// assert_eq!(drive.places().last(), Some(Place::new(2, 1)));
-/// assert_eq!(chooser.0, 0x4750_2932);
+/// assert_eq!(chooser.0, 0xD1CC_F6E9);
 /// # Ok::<(), grainbodkin::Refusal>(())
 /// ```
 #[derive(Clone, Debug, PartialEq, Eq)]

@@ -191,7 +191,7 @@ impl MarkersRef<'_> {
     /// let filled = list.drive(s, d, &mut labels, &mut region, &mut route, &mut chooser)?;
     /// assert_eq!(filled, [0, 1, 2, 10]);
     /// assert_eq!(route, [0, 1, 2, 10, 9, 9]);
-    /// assert_eq!(chooser, Chooser(0x4750_2932));
+    /// assert_eq!(chooser, Chooser(0xD1CC_F6E9));
     /// # Ok::<(), grainbodkin::Refusal>(())
     /// ```
     pub fn drive<'r>(
@@ -271,6 +271,7 @@ impl MarkersRef<'_> {
     /// let (s, d) = (Place::new(0, 0), Place::new(2, 1));
     /// let filled = list.lines_drive(s, d, &mut labels, &mut region, &mut route, &mut chooser)?;
     /// assert_eq!(filled, [0, 8, 9, 10]);
+    /// assert_eq!(chooser, Chooser(0x9CCC_40FC));
     ///
     /// // From (0,0) to (2,0) the rock lies between: no row is open. The route is too short as
     /// // well.
@@ -278,7 +279,7 @@ impl MarkersRef<'_> {
     /// let d = Place::new(2, 0);
     /// let refused = list.lines_drive(s, d, &mut labels, &mut region, &mut [], &mut chooser);
     /// assert_eq!(refused, Err(Refusal::NoLines));
-    /// assert_eq!((region, chooser), ([9; 64], Chooser(7)));
+    /// assert_eq!((region, chooser), ([9; 64], Chooser(0x9CCC_40FC)));
     /// # Ok::<(), Refusal>(())
     /// ```
     pub fn lines_drive<'r>(

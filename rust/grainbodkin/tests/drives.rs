@@ -37,20 +37,40 @@ fn a_drive_of_r_is_a_shortest_drive() {
     }
 }
 
+/// Example 11; and along a row, where every draw is thrown away.
 #[test]
-fn the_chooser_draws_only_between_two() {
+fn the_chooser_draws_at_each_hop() {
     let markers = owned(&[]);
     let mut chooser = Chooser(0);
     let drive = markers
         .drive(LOWEST, at(0, 0), at(2, 1), &mut chooser)
         .unwrap();
     assert_eq!(drive.numbers(), [0, 1, 2, 10]);
-    assert_eq!(chooser, Chooser(0x4750_2932));
+    assert_eq!(chooser, Chooser(0xD1CC_F6E9));
     let drive = markers
         .drive(LOWEST, at(0, 3), at(2, 3), &mut chooser)
         .unwrap();
     assert_eq!(drive.numbers(), [24, 25, 26]);
-    assert_eq!(chooser, Chooser(0x4750_2932));
+    assert_eq!(chooser, Chooser(0x6252_E503));
+}
+
+/// Equally long drives from one state, past rocks and without them, by way of the crossing lines
+/// and straight: the same state after each.
+#[test]
+fn the_state_is_foretold_by_the_hops() {
+    let (bare, rocky) = (owned(&[]), owned(&R));
+    let draw = |z: u32| z.wrapping_mul(1664525).wrapping_add(1013904223);
+    for state in 0..200 {
+        let [mut a, mut b, mut c, mut d] = [Chooser(state); 4];
+        bare.drive(LOWEST, at(0, 2), at(7, 4), &mut a).unwrap();
+        rocky.drive(LOWEST, at(0, 2), at(7, 4), &mut b).unwrap();
+        rocky
+            .lines_drive(LOWEST, at(7, 4), at(0, 2), &mut c)
+            .unwrap();
+        rocky.drive(LOWEST, at(0, 0), at(7, 2), &mut d).unwrap();
+        let nine_hops = (0..9).fold(state, |z, _| draw(z));
+        assert_eq!([a, b, c, d], [Chooser(nine_hops); 4]);
+    }
 }
 
 #[test]

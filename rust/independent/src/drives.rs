@@ -74,6 +74,8 @@ pub fn drawn(state: u32) -> u32 {
 }
 
 /// The crossings of the drive, s first and d last, and the state after it. The region is not empty.
+/// Document 02, "Draw once for every hop": "the chooser draws at each hop, whether there is one
+/// candidate or two; with one the draw is thrown away."
 pub fn drive_of(
     region: &Crossings,
     s: Crossing,
@@ -85,10 +87,10 @@ pub fn drive_of(
     while at != d {
         let candidate = |n: &&Crossing| n.distance(at) == 1 && n.distance(d) + 1 == at.distance(d);
         let candidates: Vec<_> = region.iter().filter(candidate).copied().collect();
+        state = drawn(state);
         at = match candidates[..] {
             [only] => only,
             [one, other] => {
-                state = drawn(state);
                 let top_bit = state >= 1 << 31;
                 let along_row = if one.y == at.y { one } else { other };
                 let along_column = if one.y == at.y { other } else { one };

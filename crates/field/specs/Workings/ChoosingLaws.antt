@@ -41,15 +41,15 @@ module _ (w h : ℕ) (C : ℕ → ℕ → Type 0) (sx sy dx dy : ℕ) where
       go (along-row n p q) = by-row (rw (p, q) at k) p q
       go (along-column n p q) = by-column (rw (p, q) at k) p q
 
-  -- The choice by what is a candidate: the one, the other, or a draw between the two.
-  row-alone : {x y : ℕ} (z : ℕ) → InRow x y → ¬ InColumn x y → Chosen w h C sx sy dx dy x y z (hopTo x dx) y z
+  -- The choice by what is a candidate: the one, the other, or by the draw between the two.
+  row-alone : {x y : ℕ} (z : ℕ) → InRow x y → ¬ InColumn x y → Chosen w h C sx sy dx dy x y z (hopTo x dx) y (drawn z)
   row-alone {x} {y} z k n = alone k (λ c d m. go (one-of m)) refl
     where
       go : {c d : ℕ} → OneOf x y c d → (c ≡ hopTo x dx) × (d ≡ y)
       go (by-row m p q) = (p, q)
       go (by-column m p q) = absurd (n m)
 
-  column-alone : {x y : ℕ} (z : ℕ) → ¬ InRow x y → InColumn x y → Chosen w h C sx sy dx dy x y z x (hopTo y dy) z
+  column-alone : {x y : ℕ} (z : ℕ) → ¬ InRow x y → InColumn x y → Chosen w h C sx sy dx dy x y z x (hopTo y dy) (drawn z)
   column-alone {x} {y} z n k = alone k (λ c d m. go (one-of m)) refl
     where
       go : {c d : ℕ} → OneOf x y c d → (c ≡ x) × (d ≡ hopTo y dy)

@@ -52,8 +52,8 @@ pub record Choice : Type 0 where
 abbrev pub choiceOf : Bool → Bool → ℕ → ℕ → ℕ → ℕ → ℕ → Choice
 choiceOf true true x y a b z =
     cond (eqb (top (drawn z)) 0) (record { x = a; y = y; state = drawn z }) (record { x = x; y = b; state = drawn z })
-choiceOf true false x y a b z = record { x = a; y = y; state = z }
-choiceOf false n x y a b z = record { x = x; y = b; state = z }
+choiceOf true false x y a b z = record { x = a; y = y; state = drawn z }
+choiceOf false n x y a b z = record { x = x; y = b; state = drawn z }
 
 unfoldable pub chosenOf : List ℕ → ℕ → ℕ → ℕ → ℕ → ℕ → ℕ → ℕ → Choice
 chosenOf g w h dx dy x y z = choiceOf (eastWestIn g w h dx x y) (northSouthIn g w h dy x y) x y (hopTo x dx) (hopTo y dy) z

@@ -32,12 +32,12 @@ pub fn drive(
     Ok(length)
 }
 
-/// The choice at (x, y): with two candidates, draw, and the top bit 0 takes the east-west one.
+/// The choice at (x, y): draw, and with two candidates the top bit 0 takes the east-west one.
 fn choose(g: &[u8], w: usize, (dx, dy): Place, (x, y): Place, state: &mut u32) -> Place {
     let row = x != dx && g[y * w + toward(x, dx)] != 0;
     let column = y != dy && g[toward(y, dy) * w + x] != 0;
+    *state = draw(*state);
     let east_west = if row && column {
-        *state = draw(*state);
         *state >> 31 == 0
     } else {
         row

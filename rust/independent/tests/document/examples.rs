@@ -117,7 +117,20 @@ fn example_11_drive() {
     let after = drive(asking(&[], &[OLD; 64], &places), &[OLD; 64], &[9; 5], 0);
     assert_eq!((after.refusal, after.length), (0, 4));
     assert_eq!(after.route, [0, 1, 2, 10, 9]);
-    assert_eq!(after.state, 0x4750_2932);
+    assert_eq!(after.state, 0xD1CC_F6E9);
+}
+
+/// Document 02, "Draw once for every hop": past the rocks of R and without them the crossings are
+/// the same here, with two hops that have two candidates and with four; and so is the state.
+#[test]
+fn a_draw_for_every_hop() {
+    let places = [at(0, 2), at(7, 4)];
+    for list in [markers(&R), markers(&[])] {
+        let after = drive(asking(&list, &[OLD; 64], &places), &[OLD; 64], &[9; 10], 0);
+        assert_eq!((after.refusal, after.length), (0, 10));
+        assert_eq!(after.route, [16, 17, 18, 26, 34, 35, 36, 37, 38, 39]);
+        assert_eq!(after.state, 0x81FD_BEE7);
+    }
 }
 
 #[test]

@@ -20,58 +20,63 @@ draw-requires c κs = search needs
 
 hop-requires : tie.Need-hop-requires
 hop-requires c κs =
-    let e = c .before .before .before in
-    east-west-tells _ _ _ _ _ _ .1 (told (e .before .before .east-west .ensures) (e .if1 .taken)) .0
+    let e = c .before .before in
+    east-west-tells _ _ _ _ _ _ .1 (told (e .before .before .before .east-west .ensures) (e .if1 .taken)) .0
 
 returns : tie.Need-returns
 returns c =
-    let d = c .before .before in
-    let e = d .before .before in
-    let l = e .before in
+    let n = c .before .before in
+    let e = n .before in
+    let d = e .before in
+    let l = d .before in
     chose _ _ _ _ _ _ _ _
-    (chosen-low _ _ _ _ _ _ _ _ (told (l .before .east-west .ensures) (e .if1 .taken)) (told (l .north-south .ensures) (d .before .if2 .taken))
+    (chosen-low _ _ _ _ _ _ _ _ (told (l .before .east-west .ensures) (e .if1 .taken)) (told (l .north-south .ensures) (n .if2 .taken))
     (rw (d .draw .ensures) at (top-zero (c .before .if3 .taken))))
     (c .hop .ensures) refl (d .draw .ensures)
 
 hop-requires-2 : tie.Need-hop-requires-2
 hop-requires-2 c κs =
-    let n = c .before .before in
-    north-south-tells _ _ _ _ _ _ .1 (told (n .before .before .north-south .ensures) (n .if2 .taken)) .0
+    let n = c .before in
+    north-south-tells _ _ _ _ _ _ .1 (told (n .before .before .before .north-south .ensures) (n .if2 .taken)) .0
 
 returns-2 : tie.Need-returns-2
 returns-2 c =
-    let d = c .before .before in
-    let e = d .before .before in
-    let l = e .before in
+    let n = c .before .before in
+    let e = n .before in
+    let d = e .before in
+    let l = d .before in
     chose _ _ _ _ _ _ _ _
-    (chosen-high _ _ _ _ _ _ _ _ (told (l .before .east-west .ensures) (e .if1 .taken)) (told (l .north-south .ensures) (d .before .if2 .taken))
+    (chosen-high _ _ _ _ _ _ _ _ (told (l .before .east-west .ensures) (e .if1 .taken)) (told (l .north-south .ensures) (n .if2 .taken))
     (rw (d .draw .ensures) at (top-other (c .before .if3 .left))))
     refl (c .hop2 .ensures) (d .draw .ensures)
 
 hop-requires-3 : tie.Need-hop-requires-3
 hop-requires-3 c κs =
     let e = c .before in
-    east-west-tells _ _ _ _ _ _ .1 (told (e .before .before .east-west .ensures) (e .if1 .taken)) .0
+    east-west-tells _ _ _ _ _ _ .1 (told (e .before .before .before .east-west .ensures) (e .if1 .taken)) .0
 
 returns-3 : tie.Need-returns-3
 returns-3 c =
     let e = c .before .before in
-    let l = e .before in
+    let d = e .before in
+    let l = d .before in
     chose _ _ _ _ _ _ _ _
     (chosen-row _ _ _ _ _ _ _ _ (told (l .before .east-west .ensures) (e .if1 .taken)) (told (l .north-south .ensures) (c .before .if2 .left)))
-    (c .hop3 .ensures) refl refl
+    (c .hop3 .ensures) refl (d .draw .ensures)
 
 hop-requires-4 : tie.Need-hop-requires-4
 hop-requires-4 c κs =
-    let l = c .before in
+    let l = c .before .before in
     north-south-tells _ _ _ _ _ _ .1
     (⊎-elim (λ p. absurd (false≢true (sym (told (l .before .east-west .ensures) (c .if1 .left)) ∙ p))) (λ p. p) (l .before .before .before .pre .some))
     .0
 
 returns-4 : tie.Need-returns-4
 returns-4 c =
-    let l = c .before .before in
-    chose _ _ _ _ _ _ _ _ (chosen-column _ _ _ _ _ _ _ _ (told (l .before .east-west .ensures) (c .before .if1 .left))) refl (c .hop4 .ensures) refl
+    let d = c .before .before in
+    let l = d .before in
+    chose _ _ _ _ _ _ _ _ (chosen-column _ _ _ _ _ _ _ _ (told (l .before .east-west .ensures) (c .before .if1 .left))) refl (c .hop4 .ensures)
+    (d .draw .ensures)
 
 pub choose-spec : {M : Type 1} → statement M
 choose-spec =
