@@ -124,13 +124,16 @@ fn grow_west(c: &mut [u64], w: usize, h: usize, y: usize) -> u64
 }
 
 // Grows row y: to the east, and where that changes something, back to the west. A row of one word
-// needs no way back.
+// needs neither loop nor way back.
 fn grow_row(c: &mut [u64], w: usize, h: usize, y: usize) -> u64
     requires { ⌜ GrowingRow w h y (now c) ⌝ }
     ensures { λ r. ⌜ Sweeps (λ (b a : ℕ). (b ≡ y) × (64 * a < w)) w h (now (c .entry)) (now (c .exit)) r ⌝ }
 {
+    if w <= 64 {
+        return grow_word(c, w, h, y, 0);
+    }
     let d = grow_east(c, w, h, y);
-    if d == 0 || w <= 64 {
+    if d == 0 {
         return d;
     }
     let e = grow_west(c, w, h, y);

@@ -8,7 +8,7 @@ use Rattle.field.specs.Map.{Sides, On, at}
 use Rattle.field.specs.Workings.Sheet.{Marked}
 use Rattle.bits.specs.Laws.{without}
 use Rattle.words.specs.Words.{byteOf}
-use Rattle.rows.specs.Rows.{wordAt, bitIn, Long, Rows}
+use Rattle.rows.specs.Rows.{wordAt, bitIn, Long, Rows, WidthAt}
 
 -- A sheet of the map's size with 1 on each rock's crossing and 0 elsewhere.
 pub record Stamped (w h : ℕ) (s : List ℕ) : Type 0 where
@@ -31,11 +31,22 @@ pub record Drawing (D : ℕ → ℕ → Type 0) (w h : ℕ) (s c : List ℕ) : T
   pub rows : Rows w h c
   pub drawn : (x y : ℕ) → On w h x y → D y (x / 64) → bitIn c x y ≡ at s w x y
 
+-- Word a of row b stands before word j of row y: in a row before it, or before it in its row.
+abbrev pub Before : ℕ → ℕ → ℕ → ℕ → Type 0
+Before y j b a = (b < y) ⊎ ((b ≡ y) × (a < j))
+
 -- The rows before row y are read.
 pub record ReadingRow (w h y : ℕ) (s c : List ℕ) : Type 0 where
   pub stamped : Stamped w h s
   pub in-y : y < h
   pub drawing : Drawing (λ (b a : ℕ). b < y) w h s c
+
+-- The words before word j of row y are read.
+pub record ReadingAt (w h y j : ℕ) (s c : List ℕ) : Type 0 where
+  pub stamped : Stamped w h s
+  pub in-y : y < h
+  pub in-x : 64 * j < w
+  pub drawing : Drawing (Before y j) w h s c
 
 -- c has the sheet's bytes as bits.
 pub record Drawn (w h : ℕ) (s c : List ℕ) : Type 0 where
@@ -58,14 +69,17 @@ pub record Putting (w h : ℕ) (rock c s : List ℕ) : Type 0 where
   pub long-c : Long h c
   pub fair : Fair w h rock c s
 
-pub record PuttingRow (w h y : ℕ) (rock c s : List ℕ) : Type 0 where
+-- Row y, whose first word has n crossings; word j of it, which has n.
+pub record PuttingRow (w h y n : ℕ) (rock c s : List ℕ) : Type 0 where
   pub putting : Putting w h rock c s
   pub in-y : y < h
+  pub width : WidthAt w 0 n
 
-pub record PuttingWord (w h y j : ℕ) (rock c s : List ℕ) : Type 0 where
+pub record PuttingWord (w h y j n : ℕ) (rock c s : List ℕ) : Type 0 where
   pub putting : Putting w h rock c s
   pub in-y : y < h
   pub in-x : 64 * j < w
+  pub width : WidthAt w j n
 
 -- The labels of the words of D are written, and no label is lost.
 pub record Wrote (D : ℕ → ℕ → Type 0) (w h : ℕ) (rock c s t : List ℕ) : Type 0 where

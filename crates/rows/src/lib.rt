@@ -11,7 +11,7 @@ ghost use mathlib.Core.Path.{_≡_};
 ghost use lib.ListN.{length};
 ghost use Rattle.rows.specs.Layout.{words};
 ghost use Rattle.rows.specs.Rows.{WidthAt, MaskAt};
-ghost use Rattle.rows.specs.Sheets.{Reading, ReadingRow, Drawing, Drawn, Putting, PuttingRow, PuttingWord, Wrote};
+ghost use Rattle.rows.specs.Sheets.{Before, Reading, ReadingRow, ReadingAt, Drawing, Drawn, Putting, PuttingRow, PuttingWord, Wrote};
 
 // The words of the widest row: SIDE crossings, 64 to a word.
 pub const WORDS: usize = (field::SIDE + 63) / 64;
@@ -44,15 +44,25 @@ pub fn mask_at(w: usize, j: usize) -> u64
     words::mask_of(width_at(w, j))
 }
 
-// Reads row y of a sheet of 0 and 1 into the words.
+// Reads word j of row y, of a sheet of 0 and 1.
+fn read_at(s: &[u8], w: usize, h: usize, y: usize, j: usize, c: &mut [u64])
+    requires { ⌜ ReadingAt w h y j (now s) (now c) ⌝ }
+    ensures { λ r. ⌜ Drawing (Before y (j + 1)) w h (now (s .entry)) (now (c .exit)) × (length (now (c .exit)) ≡ length (now (c .entry))) ⌝ }
+{
+    let n = width_at(w, j);
+    c[y * STRIDE + j + FIRST] = words::read_word(s, y * w + 64 * j, n);
+}
+
+// Reads row y of a sheet of 0 and 1 into the words. The first word goes by itself: a row of no more
+// than 64 crossings has no other, and meets no loop.
 fn read_row(s: &[u8], w: usize, h: usize, y: usize, c: &mut [u64])
     requires { ⌜ ReadingRow w h y (now s) (now c) ⌝ }
     ensures { λ r. ⌜ Drawing (λ (b a : ℕ). b < y + 1) w h (now (s .entry)) (now (c .exit)) × (length (now (c .exit)) ≡ length (now (c .entry))) ⌝ }
 {
-    let mut j = 0;
+    read_at(s, w, h, y, 0, c);
+    let mut j = 1;
     while 64 * j < w {
-        let n = width_at(w, j);
-        c[y * STRIDE + j + FIRST] = words::read_word(s, y * w + 64 * j, n);
+        read_at(s, w, h, y, j, c);
         j += 1;
     }
 }
@@ -69,10 +79,19 @@ pub fn read(s: &[u8], w: usize, h: usize, c: &mut [u64])
     }
 }
 
-// Writes the labels of word j of row y. The rocks stand on the sheet already, so a word with
-// nothing shut is not written.
-fn put_word<'a>(s: &mut [u8], w: usize, h: usize, y: usize, j: usize, rock: &'a [u64], c: &'a [u64])
-    requires { ⌜ PuttingWord w h y j (now rock) (now c) (now s) ⌝ }
+// Writes the labels of word j of row y, which has n crossings. The rocks stand on the sheet already,
+// so a word with nothing shut is not written.
+fn put_word<'a>(
+    s: &mut [u8],
+    w: usize,
+    h: usize,
+    y: usize,
+    j: usize,
+    n: usize,
+    rock: &'a [u64],
+    c: &'a [u64],
+)
+    requires { ⌜ PuttingWord w h y j n (now rock) (now c) (now s) ⌝ }
     ensures { λ r. ⌜ Wrote (λ (b a : ℕ). (b ≡ y) × (a ≡ j)) w h (now (rock .entry)) (now (c .entry)) (now (s .entry)) (now (s .exit)) ⌝ }
 {
     let i = y * STRIDE + j;
@@ -81,31 +100,38 @@ fn put_word<'a>(s: &mut [u8], w: usize, h: usize, y: usize, j: usize, rock: &'a 
     if sh == 0 {
         return;
     }
-    let n = width_at(w, j);
     words::write_word(s, y * w + 64 * j, n, ro, sh);
 }
 
-// Writes the labels of row y.
-fn put_row<'a>(s: &mut [u8], w: usize, h: usize, y: usize, rock: &'a [u64], c: &'a [u64])
-    requires { ⌜ PuttingRow w h y (now rock) (now c) (now s) ⌝ }
+// Writes the labels of row y, whose first word has n crossings. A row of no more than 64 crossings
+// is that word, and meets no loop.
+fn put_row<'a>(s: &mut [u8], w: usize, h: usize, y: usize, n: usize, rock: &'a [u64], c: &'a [u64])
+    requires { ⌜ PuttingRow w h y n (now rock) (now c) (now s) ⌝ }
     ensures { λ r. ⌜ Wrote (λ (b a : ℕ). (b ≡ y) × (64 * a < w)) w h (now (rock .entry)) (now (c .entry)) (now (s .entry)) (now (s .exit)) ⌝ }
 {
+    if w <= 64 {
+        put_word(s, w, h, y, 0, n, rock, c);
+        return;
+    }
     let mut j = 0;
     while 64 * j < w {
-        put_word(s, w, h, y, j, rock, c);
+        let m = width_at(w, j);
+        put_word(s, w, h, y, j, m, rock, c);
         j += 1;
     }
 }
 
 // Writes the labels on a sheet on which the rocks are stamped: rock has the rocks' bits, c those of
-// the closed crossings.
+// the closed crossings. How many crossings the first word has is worked out here, before a test of
+// the width: so the compiler sees that it is 64 at most, and writes a word without a loop.
 pub fn put<'a>(s: &mut [u8], w: usize, h: usize, rock: &'a [u64], c: &'a [u64])
     requires { ⌜ Putting w h (now rock) (now c) (now s) ⌝ }
     ensures { λ r. ⌜ Wrote (λ (b a : ℕ). (b < h) × (64 * a < w)) w h (now (rock .entry)) (now (c .entry)) (now (s .entry)) (now (s .exit)) ⌝ }
 {
+    let n = width_at(w, 0);
     let mut y = 0;
     while y < h {
-        put_row(s, w, h, y, rock, c);
+        put_row(s, w, h, y, n, rock, c);
         y += 1;
     }
 }

@@ -20,10 +20,12 @@ use Rattle.bits.specs.Ones.{ones-row}
 use Rattle.rows.specs.Layout.{words, wordsOf, spot, spotSouth, spotWest, sides-w}
 use Rattle.rows.specs.Rows.{wordAt, bitIn, Lit, Place, Rows}
 use Rattle.rows.specs.Sheets.{Drawn, Wrote, Putting}
+use Rattle.closing.specs.Growth.{Sweeping}
 use Rattle.closing.specs.Closes.{Closes}
 use Rattle.labels.specs.declared.Labelled.{Labelled}
 use Rattle.labels.specs.Promise.{Stamped, Stones, Labels}
 use Rattle.labels.specs.Counting.{shutAt, westAt, cornersAt, Counted}
+use Rattle.labels.specs.Memory.{Ready}
 use Rattle.labels.proofs.Laws.Tells.{Tells, is-so, is-not, tells, tells-dec, count-told}
 
 module _ {w h : ℕ} {s t marks c : List ℕ} {r : Labelled} (S : Stamped w h s) (D : Drawn w h s marks) (K : Closes w h marks c)
@@ -216,3 +218,11 @@ module _ {w h : ℕ} {s t marks c : List ℕ} {r : Labelled} (S : Stamped w h s)
 pub putting : {w h : ℕ} {s marks c : List ℕ} → Stamped w h s → Drawn w h s marks → Closes w h marks c → Putting w h marks c s
 putting S D K =
     record { sides = S .sides; size = S .size; long-rock = D .rows .long; long-c = K .rows .long; fair = λ x y o. inl (sym (D .drawn x y o)) }
+
+-- What closing asks of words that are ready, and what it promises: the rocks are what is lit in
+-- rock.
+pub ready-sweeping : {w h : ℕ} {s marks c : List ℕ} → Ready w h s marks c → Sweeping w h c
+ready-sweeping p = record { sides = p .stamped .sides; rows = rw (p .same) (p .drawn .rows) }
+
+pub ready-closes : {w h : ℕ} {s marks c t : List ℕ} → Ready w h s marks c → Closes w h c t → Closes w h marks t
+ready-closes p k = rw (p .same) at k

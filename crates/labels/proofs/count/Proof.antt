@@ -29,7 +29,7 @@ count-row-requires : tie.Need-count-row-requires Inv-loop μ-loop
 count-row-requires c κs =
     let p = c .before .before .before .before .pre in
     let i = c .before .loop .inv in
-    record { most-w = i .2; most-y = omega (arith, i .1); long-rock = omega (arith, p .long-rock); long-c = omega (arith, p .long-c) }
+    record { some-w = p .sides .some-w; most-w = i .2; most-y = omega (arith, i .1); long-rock = omega (arith, p .long-rock); long-c = omega (arith, p .long-c) }
 
 add-rocks : tie.Need-add-rocks Inv-loop μ-loop
 add-rocks c = omega (arith, c .before .count-row .ensures .most-rocks)

@@ -34,7 +34,7 @@ pub putting-next : {D : ℕ → ℕ → Type 0} {w h : ℕ} {rock c s t : List �
 putting-next p f =
     record { sides = p .sides; size = f .size ∙ p .size; long-rock = p .long-rock; long-c = p .long-c; fair = f .fair }
 
-module _ {w h y j : ℕ} {rock c s : List ℕ} (p : PuttingWord w h y j rock c s) where
+module _ {w h y j n : ℕ} {rock c s : List ℕ} (p : PuttingWord w h y j n rock c s) where
   -- Nothing is shut.
   pub put-skip : without 64 (getD c (spot y j) 0) (getD rock (spot y j) 0) ≡ 0 → Wrote (λ (b a : ℕ). (b ≡ y) × (a ≡ j)) w h rock c s s
   put-skip e = record { size = refl; done = λ x z o d. done x z d (p .putting .fair x z o); keep = λ x z o q. q; fair = p .putting .fair }
@@ -46,10 +46,10 @@ module _ {w h y j : ℕ} {rock c s : List ℕ} (p : PuttingWord w h y j rock c s
           let v : without 64 (wordAt c z (x / 64)) (wordAt rock z (x / 64)) ≡ 0 = ap (λ (k : ℕ). without 64 (getD c k 0) (getD rock k 0)) i ∙ e in
           omega (arith, q, zero-bit (without 64 (wordAt c z (x / 64)) (wordAt rock z (x / 64))) (x % 64) v)
 
-  pub put-done : {n : ℕ} {t : List ℕ} → WidthAt w j n
+  pub put-done : {t : List ℕ}
       → WrittenAt (y * w + 64 * j) (getD rock (spot y j) 0) (without 64 (getD c (spot y j) 0) (getD rock (spot y j) 0)) s t n
       → Wrote (λ (b a : ℕ). (b ≡ y) × (a ≡ j)) w h rock c s t
-  put-done {n} {t} wd r =
+  put-done {t} r =
       record {
         size = r .size;
         done = λ x z o d. here x z o d;
@@ -57,6 +57,9 @@ module _ {w h y j : ℕ} {rock c s : List ℕ} (p : PuttingWord w h y j rock c s
         fair = λ x z o. fair x z o (cases x z o) (p .putting .fair x z o);
       }
     where
+      wd : WidthAt w j n
+      wd = p .width
+
       here : (x z : ℕ) → On w h x z → (z ≡ y) × (x / 64 ≡ j) → at t w x z ≡ labelAt rock c x z
       here x z o d =
           let q : y * w + x ≡ y * w + 64 * j + x % 64 = omega (arith, d .1) in

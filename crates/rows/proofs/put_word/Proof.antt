@@ -35,26 +35,23 @@ shared-slice-read-sh c = omega (arith, sides-w (c .before .before .before .befor
 returns : tie.Need-returns
 returns c = put-skip (c .before .before .before .before .before .before .pre) (c .if1 .taken)
 
-width-at-requires : tie.Need-width-at-requires
-width-at-requires c κs = (c .before .before .before .before .before .before .pre .in-x, sides-w (c .before .before .before .before .before .before .pre .putting .sides))
-
 mul-write-word : tie.Need-mul-write-word
-mul-write-word c = omega (arith, c .before .before .before .before .before .before .before .before .pre .putting .size, row-in (c .before .before .before .before .before .before .before .before .args .w) (c .before .before .before .before .before .before .before .before .pre .in-y))
+mul-write-word c = omega (arith, c .before .before .before .before .before .before .before .pre .putting .size, row-in (c .before .before .before .before .before .before .before .args .w) (c .before .before .before .before .before .before .before .pre .in-y))
 
 mul-write-word-2 : tie.Need-mul-write-word-2
 mul-write-word-2 c = search needs
 
 add-write-word : tie.Need-add-write-word
-add-write-word c = omega (arith, c .before .before .before .before .before .before .before .before .pre .in-x, c .before .before .before .before .before .before .before .before .pre .putting .size, row-in (c .before .before .before .before .before .before .before .before .args .w) (c .before .before .before .before .before .before .before .before .pre .in-y))
+add-write-word c = omega (arith, c .before .before .before .before .before .before .before .pre .in-x, c .before .before .before .before .before .before .before .pre .putting .size, row-in (c .before .before .before .before .before .before .before .args .w) (c .before .before .before .before .before .before .before .pre .in-y))
 
 write-word-requires : tie.Need-write-word-requires
-write-word-requires c κs = (omega (arith, c .before .width-at .ensures .in-row, c .before .before .before .before .before .before .before .before .pre .putting .size, row-in (c .before .before .before .before .before .before .before .before .args .w) (c .before .before .before .before .before .before .before .before .pre .in-y)), c .before .width-at .ensures .most)
+write-word-requires c κs = (omega (arith, c .before .before .before .before .before .before .before .pre .width .in-row, c .before .before .before .before .before .before .before .pre .putting .size, row-in (c .before .before .before .before .before .before .before .args .w) (c .before .before .before .before .before .before .before .pre .in-y)), c .before .before .before .before .before .before .before .pre .width .most)
 
 same-length : tie.Need-same-length
 same-length c = search needs
 
 returns-2 : tie.Need-returns-2
-returns-2 c = put-done (c .before .before .before .before .before .before .before .before .before .before .before .pre) (c .before .before .before .before .width-at .ensures) (c .before .before .write-word .ensures)
+returns-2 c = put-done (c .before .before .before .before .before .before .before .before .before .before .pre) (c .before .before .write-word .ensures)
 
 pub put-word-spec : {M : Type 1} → statement M
 put-word-spec =
@@ -69,7 +66,6 @@ put-word-spec =
     mul-sh
     shared-slice-read-sh
     returns
-    width-at-requires
     mul-write-word
     mul-write-word-2
     add-write-word
