@@ -3,6 +3,8 @@
 // answer is the number with zeros. Else the sheet is labelled first, and then the question is
 // answered over its marks: whatever is not 0 on it is closed. The hop by a morning sheet labels
 // nothing: its sheet is looked at, and not written to.
+#![tactic(auto)]
+
 mod telling; // telling.rt: what the crates below tell, as document 01's number and values
 
 ghost use Rattle.askings.specs.Promise.{MayLabel, MayAsk, MayAskTwo, MayMeasure, MayDrive};
@@ -177,14 +179,14 @@ pub fn hop_by(
     if !taking::steady(sheet, w, h) {
         return no_hop(NOT_TAKEN);
     }
-    if an_end_closed(sheet, w, h, hx, hy, x, y) {
-        return no_hop(END_CLOSED);
+    if !an_end_closed(sheet, w, h, hx, hy, x, y) {
+        if !distances::assured(sheet, w, h, hx, hy, x, y) {
+            return no_hop(NOT_ASSURED);
+        }
+        let answer = hops::hop(sheet, w, h, hx, hy, x, y);
+        return telling::hops_named(answer);
     }
-    if !distances::assured(sheet, w, h, hx, hy, x, y) {
-        return no_hop(NOT_ASSURED);
-    }
-    let answer = hops::hop(sheet, w, h, hx, hy, x, y);
-    telling::hops_named(answer)
+    no_hop(END_CLOSED)
 }
 
 // The region of shortest drives from (sx, sy) to (dx, dy), into a lent sheet. With an end closed:

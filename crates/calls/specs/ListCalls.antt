@@ -142,7 +142,7 @@ module _ {m next : LentMap} {id : ℕ} {list' : List Marker} {r : Counted} (c : 
 
 -- A marker that stands in the list stands there once still, after any sequence of calls that spares
 -- its id. Entering its id again is refused, since the id is in use.
-pub spared : {m next : LentMap} {k : Marker} → Times k (markers_in m) 1 → Sparing k.id m next → Times k (markers_in next) 1
+pub spared : {m : LentMap} {k : Marker} {next : LentMap} → Times k (markers_in m) 1 → Sparing k.id m next → Times k (markers_in next) 1
 spared p (sequences.Sparing.start e) = rw e p
 spared {k = k} p (sequences.Sparing.enter {mid} {next} new x y height r s c o) = go (ℕ_discrete r.refusal 0) (spared p s)
   where

@@ -1,5 +1,7 @@
 // The labelling program's text: from the bytes of a map file to an output slice. Each piece of the
 // text is written into its own part of the output, and hands back where the next begins.
+#![tactic(auto)]
+
 ghost use Rattle.std.specs.Prelude.{◌+◌, ◌≤◌, length, take, drop, ◌≡◌};
 ghost use Rattle.printing.specs.Parts.{Puts};
 ghost use Rattle.chart.specs.Promise.{line_room, room, Charted};

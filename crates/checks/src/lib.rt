@@ -1,6 +1,8 @@
 // The check of a drawn list of crossing numbers, over a sheet that marks the closed crossings.
 // "accepts a drawn list exactly if it is a shortest drive from s to d"; otherwise "it tells the
 // position of the first crossing at fault and why".
+#![tactic(auto)]
+
 ghost use Rattle.std.specs.Prelude.{◌≡◌, drop};
 ghost use Rattle.field.specs.Checks.{Finds};
 ghost use Rattle.field.specs.Workings.Sheet.{Marked};

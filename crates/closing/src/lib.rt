@@ -7,6 +7,8 @@
 // The number of looks: a sweep looks at a row only if that row changed or a row beside it did, and
 // each change closes a crossing at least, so there are at most three looks to a crossing that
 // closes, and one to a row besides.
+#![tactic(auto)]
+
 ghost use Rattle.std.specs.Prelude.{◌≡◌, ℕ, ◌*◌, ◌<◌, length};
 ghost use Rattle.closing.specs.Steps.{Stepped, Spread, Filled};
 ghost use Rattle.closing.specs.Growth.{Sweeping, GrowingRow, Growing, Sweeps};

@@ -1,5 +1,7 @@
 // How well is this depot placed? Reads P4 maps one after another from standard input and prints a
 // line for each map and each corner as depot, then the sums; or why a map is refused.
+#![tactic(auto)]
+
 ghost use Rattle.std.specs.Prelude.{◌≤◌, length};
 ghost use Rattle.depots.specs.States.{Keeping, Kept, Buffers, Standing, Filled, HandedOver, Finished, MayGoOn, Advanced, MayStep, StepMade};
 

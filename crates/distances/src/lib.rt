@@ -1,5 +1,7 @@
 // Clear distances of one crossing, and whether home is assured, over a sheet that marks the closed
 // crossings.
+#![tactic(auto)]
+
 mod look; // look.rt: the distance of one crossing, one way
 
 ghost use Rattle.std.specs.Prelude.{◌≡◌, true, ◌↔◌};

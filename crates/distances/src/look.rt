@@ -9,7 +9,7 @@ use crate::NONE;
 use sheets::mark;
 
 // "east, south, west, north, in that order"
-#[derive(Drop)]
+#[derive(Clone, Copy)]
 pub(crate) enum Way {
     East,
     South,

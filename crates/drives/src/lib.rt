@@ -1,4 +1,6 @@
 // The chooser's drive, over a sheet that marks the closed crossings.
+#![tactic(auto)]
+
 pub mod chooser; // chooser.rt: the choice at a crossing, and a drive written down
 
 ghost use Rattle.std.specs.Prelude.{◌≡◌, ◌*◌, ◌%◌};

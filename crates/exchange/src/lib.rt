@@ -1,6 +1,8 @@
 // The parts of the two map-file calls that need no list of records: writing from sheets on which
 // the markers and the rocks are stamped, and reading into bits, from which each rock's marker is
 // told.
+#![tactic(auto)]
+
 ghost use Rattle.std.specs.Prelude.{◌≡◌, ◌+◌, ◌*◌, ◌≤◌, length};
 ghost use Rattle.field.specs.Map.{side};
 ghost use Rattle.field.specs.Workings.MarkCount.{marks};

@@ -1,5 +1,7 @@
 // The field: what document 01 defines, as meanings that a reader must believe and workings that
 // compute. The definitions stand in specs/; here stands only what code and definitions share.
+#![tactic(auto)]
+
 pub mod refusals; // refusals.rt: the refusal numbers
 pub mod reasons; // reasons.rt: why a drawn list is refused
 
@@ -30,7 +32,7 @@ pub const TALLEST: u16 = 65535;
 // A rock marker: a sixteen-bit id, the crossing on which it stands, and its height in centimetres,
 // laid out for C.
 #[repr(C)]
-#[derive(Drop)]
+#[derive(Clone, Copy)]
 pub struct Marker {
     pub id: u16,
     pub x: u16,

@@ -1,6 +1,8 @@
 // The map that the bytes at hand begin with, of maps that follow one another in one input (document
 // 02, Req 05): read, refused, too long, or not yet told. A fault is told as soon as it is the same
 // whatever bytes follow.
+#![tactic(auto)]
+
 ghost use Rattle.std.specs.Prelude.{◌≡◌, true, List, ◌++◌, ◌↔◌, ℕ, ◌+◌, ◌*◌, ◌≤◌, length, drop};
 ghost use Rattle.field.specs.Map.{side};
 ghost use Rattle.mapfile.specs.HeaderCut.{probe};

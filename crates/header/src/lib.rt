@@ -1,6 +1,8 @@
 // The letters and the header of a file: "Then a separator, the width, a separator, the height,
 // exactly one blank byte". How many numbers a header has, its caller says. Each part says where it
 // ends, so that the next begins there.
+#![tactic(auto)]
+
 ghost use Rattle.std.specs.Prelude.{◌≡◌, true, false, ◌↔◌, ℕ, ◌≤◌, length, drop};
 ghost use Rattle.mapfile.specs.Header.{Blank, LineEnd, Digit};
 ghost use Rattle.mapfile.specs.HeaderWorking.{after_items, after_comment, number_from, next_number, last_blank};

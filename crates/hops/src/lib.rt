@@ -1,4 +1,6 @@
 // Single hops homeward, over a sheet that marks the closed crossings.
+#![tactic(auto)]
+
 ghost use Rattle.std.specs.Prelude.{◌≡◌};
 ghost use Rattle.field.specs.Hops.{Answers};
 ghost use Rattle.field.specs.Workings.Sheet.{Marked};

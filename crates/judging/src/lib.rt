@@ -1,5 +1,7 @@
 // Refusals that are told from numbers and yes-or-no answers alone, the lowest first. Nothing here
 // touches what is lent.
+#![tactic(auto)]
+
 ghost use Rattle.std.specs.Prelude.{◌≡◌, true, ◌↔◌, ◌<◌, ◌^◌};
 ghost use Rattle.field.specs.Map.{On};
 ghost use Rattle.markers.specs.Promise.{marker};

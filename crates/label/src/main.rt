@@ -1,5 +1,7 @@
 // The labelling program: reads a map file from standard input and prints the map's labels, or why
 // the file is refused.
+#![tactic(auto)]
+
 ghost use Rattle.std.specs.Prelude.{◌≤◌};
 ghost use Rattle.chart.specs.Promise.{room};
 

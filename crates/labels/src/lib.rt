@@ -1,6 +1,8 @@
 // Labelling a sheet on which the rocks are stamped, by rows of bits: the rocks are read into bits,
 // the closed crossings' bits are set, the labels are written, and the numbers come from counting
 // bits.
+#![tactic(auto)]
+
 ghost use Rattle.std.specs.Prelude.{◌≤◌};
 ghost use Rattle.labels.specs.Promise.{Stamped, Labels};
 ghost use Rattle.labels.specs.Counting.{CountingWord, CountedWord, CountingRow, CountedRow, Counting, Counted};

@@ -1,6 +1,8 @@
 // The public calls over the lent list of marker records. No call relies on its caller: each answers
 // by the lowest refusal that applies, or succeeds. `clearance` is the ground clearance of the cart
 // that asks, in centimetres as the markers' heights are.
+#![tactic(auto)]
+
 pub mod files; // files.rt: the two map-file calls
 mod morning; // morning.rt: the hop by a morning sheet
 mod pictures; // pictures.rt: the two picture calls

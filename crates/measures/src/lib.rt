@@ -2,6 +2,8 @@
 // first given what every crossing has by itself, 0 where it is closed and none elsewhere; a running
 // number then goes over it from the edge on, along each row or each column. No crossing is looked
 // at again for another.
+#![tactic(auto)]
+
 mod across; // across.rt: the running numbers along the columns, south and north
 mod along; // along.rt: the running number along a row, east and west
 mod each; // each.rt: what is done to every crossing by itself

@@ -1,5 +1,7 @@
 // The crossing-lines test, over a sheet that marks the closed crossings, and the drive by way of
 // the crossing where the lines meet.
+#![tactic(auto)]
+
 mod parts; // parts.rt: the drive in its two parts
 mod search; // search.rt: the search for open lines
 

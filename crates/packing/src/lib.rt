@@ -1,5 +1,7 @@
 // Packed rows of a map, from a sheet on which the rocks are stamped: "each row is packed eight
 // crossings to a byte, highest bit westmost, 1 a rock".
+#![tactic(auto)]
+
 ghost use Rattle.std.specs.Prelude.{◌≡◌};
 ghost use Rattle.packing.specs.Packing.{RowIn, ByteIn, RowRoom, RowsRoom, rock_bit, byte_of, row_of, rows_of};
 

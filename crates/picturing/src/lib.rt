@@ -1,6 +1,8 @@
 // Pictures of distances, raw PGM: a sheet written as a picture, and a picture read back into a
 // sheet. A sheet is only sixteen-bit numbers here. Every refusal is told before a byte or a number
 // of the caller's is touched.
+#![tactic(auto)]
+
 mod rasters; // rasters.rt: the rows of a picture, from and onto a sheet
 
 ghost use Rattle.std.specs.Prelude.{◌≡◌, true, [], ◌∷◌, ◌++◌, ◌↔◌, length};

@@ -1,6 +1,8 @@
 // How well a depot is placed (document 02, Req 05), over a sheet that marks the closed crossings.
 // One pass finds which crossings have a shortest drive to the depot, its four distances tell for
 // which it is assured, and one count goes over the map: a fixed number of looks at each crossing.
+#![tactic(auto)]
+
 mod counts; // counts.rt: the four numbers, crossing by crossing
 
 ghost use Rattle.std.specs.Prelude.{◌≡◌, ◌≤◌};

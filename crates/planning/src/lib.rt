@@ -1,5 +1,7 @@
 // A run of the planners' program (document 02, Req 05), step by step: a step tells from the bytes
 // at hand what the run prints next, whatever bytes follow them.
+#![tactic(auto)]
+
 mod lines; // lines.rt: the lines of one map
 
 ghost use Rattle.std.specs.Prelude.{◌≡◌};

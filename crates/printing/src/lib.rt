@@ -1,5 +1,7 @@
 // What any program prints: numbers, bytes and a refusal's line, put into an output slice. Each
 // hands back where what it put ends, and leaves the rest of the output as it was.
+#![tactic(auto)]
+
 ghost use Rattle.std.specs.Prelude.{◌+◌, ◌≤◌, ◌++◌, length};
 ghost use Rattle.printing.specs.Printed.{number_room, refused, long, RefusalLine};
 ghost use Rattle.printing.specs.Parts.{Put, Puts, NumberThen};

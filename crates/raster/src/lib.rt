@@ -1,6 +1,8 @@
 // A map file's raster, P1 or P4, read once: its bits go into lent bytes, one a crossing in raster
 // order, its rocks are counted, and it is refused at the first fault met. Here stands what both
 // formats share.
+#![tactic(auto)]
+
 mod plain;
 mod raw;
 

@@ -1,6 +1,8 @@
 // The map reader: PBM, plain P1 and raw P4, within document 01's bounds, into lent bytes that hold
 // a bit for each crossing. It goes over the file once, and tells every refusal before anything of
 // the caller's is touched.
+#![tactic(auto)]
+
 ghost use Rattle.std.specs.Prelude.{◌≡◌, true, ◌↔◌, ℕ, ◌*◌, ◌≤◌, length};
 ghost use Rattle.field.specs.Map.{side};
 ghost use Rattle.reader.specs.Promise.{Reads};

@@ -1,19 +1,9 @@
 -- All markers in use that count stamped, the sheet draws what is to be stamped: the crossings with
 -- a marker, or a cart's rocks.
-use mathlib.Core.Path.{◌≡◌, refl, sym, subst}
-use mathlib.Core.Bool.{Bool, true, false, false≢true}
-use mathlib.Core.List.{List}
-use mathlib.Core.Logic.{◌↔◌}
-use Prim.Native.Nat.{ℕ, ◌+◌, ◌<◌, ◌≤◌}
-use native.Mathlib.Omega.{arith}
-use native.Mathlib.Decide.{dec_lt}
-use lib.Dec.{ltb}
-use lib.ListN.{length}
-use borrow.Author.Tests.{ltb-true, lt-ltb}
+use Rattle.std.proofs.Common.{◌≡◌, sym, subst, Bool, true, false, List, ℕ, ◌+◌, ◌<◌, ◌≤◌, length, arith}
+use Rattle.std.proofs.Math.Decide.{dec_lt}
 use Rattle.field.specs.declared.Marker.{Marker}
 use Rattle.field.specs.Map.{On, at}
-use Rattle.field.specs.Labels.{RockOn}
-use Rattle.field.specs.Workings.Sheet.{Draws}
 use Rattle.markers.specs.List.{slot}
 use Rattle.markers.specs.Laws.Rocks.{Stands, rock_stands, stands_rock}
 use Rattle.markers.specs.Laws.Stamping.{StandsBefore, Stamping, stamping_more, stamping_past}
@@ -34,15 +24,7 @@ CountsAt clearance low list k = Counts clearance low (slot list k)
 abbrev pub Upto : ℕ → ℕ → ℕ → Bool → List Marker → ℕ → List ℕ → Type 0
 Upto w h clearance low list k sheet = Stamping w h (x_of list) (y_of list) (CountsAt clearance low list) k sheet
 
--- Whether one counts: where low ones are included, and where they are not.
-pub counts_low : (clearance : ℕ) (low : Bool) (m : Marker) → low ≡ true → ((true ≡ true) ↔ Counts clearance low m)
-counts_low clearance true m e = (λ _. tt, λ _. refl)
-counts_low clearance false m e = absurd (false≢true e)
-
-pub counts_high : (clearance : ℕ) (low : Bool) (m : Marker) → low ≡ false → ((ltb clearance m.height ≡ true) ↔ Counts clearance low m)
-counts_high clearance true m e = absurd (false≢true (sym e))
-counts_high clearance false m e = (ltb-true _ _, lt-ltb _ _)
-
+-- Whether one counts can be told.
 counts_dec : (clearance : ℕ) (low : Bool) (m : Marker) → Dec (Counts clearance low m)
 counts_dec clearance true m = yes tt
 counts_dec clearance false m = dec_lt clearance m.height

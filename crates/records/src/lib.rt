@@ -1,5 +1,7 @@
 // The caller's list of marker records, lent with a count of those in use. Every function here looks
 // along the list itself; what it thinks of one record stands in a function on the record by value.
+#![tactic(auto)]
+
 ghost use Rattle.std.specs.Prelude.{◌≡◌, true, ◌↔◌, ◌<◌, length};
 ghost use Rattle.field.specs.Map.{number};
 ghost use Rattle.field.specs.Labels.{Rock};
@@ -12,6 +14,7 @@ ghost use Rattle.records.specs.Steps.{Few, Follows, Counts, Marks, Passes};
 use field::{MOST_MARKERS, Marker};
 
 // Whether a count is within its limits, for a list lent of this length.
+#[tactic(auto, using(field::specs::Limits::most_markers_is))]
 fn few(count: usize, lent: usize) -> bool
     ensures { (result ≡ true) ↔ Few count lent }
 {

@@ -1,4 +1,6 @@
 // The region of shortest drives, over a sheet that marks the closed crossings.
+#![tactic(auto)]
+
 pub mod looks; // looks.rt: looks at a sheet of marks
 mod passes; // passes.rt: the two passes that make the region
 

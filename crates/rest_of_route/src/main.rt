@@ -2,6 +2,8 @@
 // what the rest of the lent route holds once the filled part is handed back. So the part is let go
 // here and the whole buffer is printed, on success and at refusals; what is printed is held to the
 // file `stdout`.
+#![tactic(auto)]
+
 ghost use Rattle.std.specs.Prelude.{[], ◌∷◌, ◌≤◌};
 ghost use Rattle.calls.specs.Rules.{lent_map};
 ghost use Rattle.calls.specs.Calls.{RouteCall};

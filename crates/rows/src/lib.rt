@@ -6,6 +6,8 @@
 // edge needs a branch, and no bit runs over from one row into the next. The distance from row to
 // row is the same for every map, whatever its width: then every index is a sum of small multiples.
 // How many words are in use goes by the width.
+#![tactic(auto)]
+
 ghost use Rattle.std.specs.Prelude.{ℕ, ◌+◌, ◌*◌, ◌<◌, ◌≤◌, ◌≡◌, length};
 ghost use Rattle.rows.specs.Layout.{words};
 ghost use Rattle.rows.specs.Rows.{WidthAt, MaskAt};

@@ -1,10 +1,9 @@
 -- What a test's answer tells, and that a map within the limit has a number of crossings that fits.
 use mathlib.Core.Path.{◌≡◌, refl}
-use mathlib.Core.Bool.{Bool, true, false, not}
+use mathlib.Core.Bool.{Bool, true, false}
 use mathlib.Core.Logic.{◌↔◌}
 use Prim.Native.Nat.{ℕ, ◌*◌, ◌<◌, ◌^◌}
 use native.Mathlib.Omega.{arith}
-use borrow.Author.Tests.{not-true, not-false}
 use Rattle.field.specs.Map.{Sides}
 use Rattle.field.specs.Limits.{crossings_few}
 
@@ -15,16 +14,16 @@ refused n = (λ e. let z : ◌≡◌ {A = ℕ} 0 1 = cc in absurd (omega arith),
 pub accepted : {P : Type 0} → P → ((true ≡ true) ↔ P)
 accepted p = (λ e. p, λ q. refl)
 
--- A test `!r` of such an answer.
-pub told_no : {P : Type 0} {r : Bool} → ((r ≡ true) ↔ P) → not r ≡ true → P → ⊥
-told_no {P} {r} e n p = let z : ◌≡◌ {A = ℕ} 0 1 = cc (not-true r n, e.1 p) in omega arith
+-- A test `!r` of such an answer: r is no, or it is yes.
+pub told_no : {P : Type 0} {r : Bool} → ((r ≡ true) ↔ P) → r ≡ false → P → ⊥
+told_no e n p = let z : ◌≡◌ {A = ℕ} 0 1 = cc (n, e.1 p) in omega arith
 
-pub told_yes : {P : Type 0} {r : Bool} → ((r ≡ true) ↔ P) → not r ≡ false → P
-told_yes {P} {r} e n = e.0 (not-false r n)
+pub told_yes : {P : Type 0} {r : Bool} → ((r ≡ true) ↔ P) → r ≡ true → P
+told_yes e y = e.0 y
 
 -- A test `!r` that failed: the answer is not no.
-pub yes_no : {r : Bool} → not r ≡ false → r ≡ false → ⊥
-yes_no {r} n e = let z : ◌≡◌ {A = ℕ} 0 1 = cc (not-false r n, e) in omega arith
+pub yes_no : {r : Bool} → r ≡ true → r ≡ false → ⊥
+yes_no y n = let z : ◌≡◌ {A = ℕ} 0 1 = cc (y, n) in omega arith
 
 pub crossings_fit : {w h : ℕ} → Sides w h → h * w < 2 ^ 64
 crossings_fit s = omega (arith, crossings_few s)

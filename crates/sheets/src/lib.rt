@@ -1,5 +1,7 @@
 // What is done with a sheet of any kind: whether its map's size is within the limits, a crossing's
 // number, the byte that stands there, all bytes wiped; and one hop along an axis.
+#![tactic(auto)]
+
 ghost use Rattle.std.specs.Prelude.{◌≡◌, true, ◌≢◌, ◌↔◌};
 ghost use Rattle.field.specs.Map.{Sides, at};
 ghost use Rattle.field.specs.Workings.Looking.{hop_to};

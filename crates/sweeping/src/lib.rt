@@ -3,6 +3,8 @@
 // crossing that the next sweep closes has one of them for a neighbour, so no other need be judged.
 // Each closed crossing is in the queue once, and its neighbours are judged once for it: the work is
 // linear in the map, however many sweeps there are.
+#![tactic(auto)]
+
 ghost use Rattle.std.specs.Prelude.{◌≡◌};
 ghost use Rattle.field.specs.Workings.Sheet.{around};
 ghost use Rattle.rows.specs.Sheets.{Stamped};

@@ -2,6 +2,8 @@
 // is 0, 1 or 2, and no crossing shown open has two or more neighbours shown closed. One pass over
 // the sheet, row by row. Within a row faults are counted and not looked for: so there is nothing to
 // jump over, and a compiler judges many crossings at once.
+#![tactic(auto)]
+
 ghost use Rattle.std.specs.Prelude.{◌≡◌, true, ◌↔◌, ◌<◌};
 ghost use Rattle.sheets.specs.Promise.{Fits};
 ghost use Rattle.taking.specs.Promise.{Steady};

@@ -1,6 +1,8 @@
 // A raster of one byte a crossing turned onto a sheet of the map's size, or a sheet onto a raster:
 // the raster has its rows from the north, the sheet from the south, so that one turn undoes the
 // other.
+#![tactic(auto)]
+
 ghost use Rattle.std.specs.Prelude.{◌*◌, take, ◌≡◌};
 ghost use Rattle.mapfile.specs.Turned.{Turned};
 ghost use Rattle.turning.specs.Turning.{RowBytes, MayTurn};

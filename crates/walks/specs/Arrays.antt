@@ -6,7 +6,7 @@ use Rattle.std.proofs.Common.{sym, subst, ltb→lt}
 use mathlib.Core.List.{List, [], ◌∷◌, ◌++◌}
 use Prim.Native.Nat.{ℕ, zero, suc, ◌+◌, ◌<◌, ◌^◌}
 use seplogic.Ra.Ura.{Ura}
-use seplogic.Ra.TreeShare.{full_share}
+use base.Fraction.{full_share}
 use Rattle.std.proofs.lemmas.List.{length-replicate}
 use mir.Syntax.{Width, ty_int, ty_array, int, int_big, place, repeat, assign, seq, Body}
 use mir.Val.{Val, Fits, vint, bits, has_ty, WT}
@@ -96,10 +96,10 @@ module _ {M : Type 1} {𝓤 : Ura M} (𝓛 : Logic 𝓤) (R : RattleType) (b : �
       (mono_r 𝓤 (sem 𝓛 (part_at R full_share x b o)) (joined xs ys (o + (mem R).size)))
 
 module _ {M : Type 1} {𝓤 : Ura M} {𝓛 : Logic 𝓤} {K : Type 0} {Γ : List (Item 𝓤)} where
-  -- A local is made an array of n zeros. Its room stands at the head of the context, and the row in
-  -- its place.
   open 𝓛 use {H}
 
+  -- A local is made an array of n zeros. Its room stands at the head of the context, and the row in
+  -- its place.
   pub makes_array : {E : Env 𝓤 H} {C : Calls 𝓤 H} {Λ : Loops 𝓤 H} {z : Post 𝓤 H} {i b : ℕ} {rest : Body} → K → (w : Width) (n : ℕ) → T (ltb 0 (2 ^ bits w))
       → spot_of 𝓤 H E i ≡ (ty_array (ty_int w) n, b, 0)
       → Step K 𝓛 (‵ (row (UInt w) full_share (zeros n) b 0) ∷ Γ) (runs C Λ E rest z) (‵ (froom (ty_array (ty_int w) n) b 0) ∷ Γ) (runs C Λ E (seq (assign (place i []) (repeat (int w 0) n)) rest) z)

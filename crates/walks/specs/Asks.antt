@@ -5,14 +5,14 @@ use Rattle.std.specs.Prelude.{◌≡◌, refl, List, [], ◌∷◌, ℕ, zero, s
 use Rattle.std.proofs.Common.{sym, ap}
 use Rattle.std.proofs.Math.Option.{none}
 use seplogic.Ra.Ura.{Ura}
-use mir.Syntax.{Name, Local, Fn, Ty, place, Opd as Operand, seq, call, return}
+use mir.Syntax.{Callee, Fn, Ty, place, Opd as Operand, seq, call, return}
 use mir.Val.{Val, has_ty, WT}
-use base.Logic.{SProp, ent, sep, emp, via, fst∗}
+use base.Logic.{SProp, ent, emp, via, fst∗}
 use base.Fml.{ftrue, flft}
 use prog.Wp.{Env, Calls, Loops, WpFn}
 use types.Logic.{Logic, sem}
 use contract.Lifetimes.{Lfts, Shares, toks}
-use contract.Monad.{Fun, fact}
+use contract.Monad.{fact}
 use sound.WpLaws.{FmC}
 use types.Kit.{Go, Item, ‵, raw, ◌⊛◌, mean, ⋆, Seq, runs, at_ret, ◌$◌, ◌∵◌, !, qed, by, move, drop, split, join, use1, recast}
 use types.Run.{Opds}
@@ -48,11 +48,11 @@ module _ {M : Type 1} {𝓤 : Ura M} (𝓛 : Logic 𝓤) (R : RattleType) (F : F
     -- What a walk has: the label sheet with s on it, the tokens of its lifetime and of the list's,
     -- those of the other lifetimes, and the other things lent.
     abbrev pub labels_at : List ℕ → Item 𝓤
-    labels_at s = ‵ (mut_own κs.1.0 u8 (Passing.labels_of_lem R F κs a).ptr.0 (Passing.labels_of_lem R F κs a).ptr.1 (Passing.labels_of_lem R F κs a).name s (mut_slice_vals (Passing.labels_of_lem R F κs a)))
+    labels_at s = ‵ (mut_own κs.1.0 u8 (Passing.labels_of_lem R F κs a).ref_ptr.0 (Passing.labels_of_lem R F κs a).ref_ptr.1 (Passing.labels_of_lem R F κs a).ghost_name s (mut_slice_vals (Passing.labels_of_lem R F κs a)))
 
     labels_same : (s : List ℕ) → sem 𝓛 (Passing.labels_own R F κs a vals 𝓛 s) ≡ mean 𝓛 (labels_at s)
     labels_same s =
-        ap (λ (vs : List Val). sem 𝓛 (mut_own κs.1.0 u8 (Passing.labels_of_lem R F κs a).ptr.0 (Passing.labels_of_lem R F κs a).ptr.1 (Passing.labels_of_lem R F κs a).name s vs)) (Passing.labels_spelled R F κs a)
+        ap (λ (vs : List Val). sem 𝓛 (mut_own κs.1.0 u8 (Passing.labels_of_lem R F κs a).ref_ptr.0 (Passing.labels_of_lem R F κs a).ref_ptr.1 (Passing.labels_of_lem R F κs a).ghost_name s vs)) (Passing.labels_spelled R F κs a)
 
     abbrev pub labels_token : Item 𝓤
     labels_token = ‵ (flft κs.1.0 qs.1.0)
@@ -92,7 +92,7 @@ module _ {M : Type 1} {𝓤 : Ura M} (𝓛 : Logic 𝓤) (R : RattleType) (F : F
       (stored κs qs a (all_Typed 𝓛 (types_at (Forms.asking_params R F) κs) (Forms.asking_lawful 𝓛 R F κs) a (vals κs qs a) are)) (go κs qs a g are)))
 
   -- It ends: `answers` is called, and what it returns is returned.
-  module _ (c' : Clauses 𝓤 (Forms.answering F)) (E : Env 𝓤 H) (e : Ty × ℕ) (C : Calls 𝓤 H) (Λ : Loops 𝓤 H) (answers : Name)
+  module _ (c' : Clauses 𝓤 (Forms.answering F)) (E : Env 𝓤 H) (e : Ty × ℕ) (C : Calls 𝓤 H) (Λ : Loops 𝓤 H) (answers : Callee)
       (fm : FmC 𝓤 H 𝓛.laws C) (known : Triple 𝓤 (C answers) (Promised 𝓛 (Forms.answering F) c'))
       (κs : Lfts (suc (suc (Forms.count F.lent)))) (qs : Shares (suc (suc (Forms.count F.lent)))) (a : Denots (types_at (Forms.asking_params R F) κs)) (g : (c κs a).ghost)
       (are : Are (types_at (Forms.asking_params R F) κs) (Ises (types_at (Forms.asking_params R F) κs)) a (vals κs qs a))
@@ -118,7 +118,7 @@ module _ {M : Type 1} {𝓤 : Ura M} (𝓛 : Logic 𝓤) (R : RattleType) (F : F
         move ! (3 ∷ 1 ∷ []) $ split ! $ move ! (1 ∷ []) $ drop ! $ join ! $ move ! (2 ∷ []) $
         use1 𝓛 (‵ (lasts (Forms.asking R F) κs a (Passing.call_lasts R F κs a n s ws))) (Passing.call_says R F κs a (vals κs qs a) 𝓛 n s len ws) $ move ! (2 ∷ []) $
         use1 𝓛 (‵ (Passing.returned_own F κs r)) (Passing.returns_answer F κs 𝓛 r) $ move ! (0 ∷ 2 ∷ []) $
-        by ! (ends_owning {𝓛 = 𝓛} (Forms.asking R F) c ((κs, qs, tt, a, vals κs qs a), g) (Passing.answer_val F κs r) (Passing.returned F κs r) (Passing.call_lasts R F κs a n s ws) (φ (Passing.returned F κs r) (Passing.call_lasts R F κs a n s ws))
+        by ! (ends_owning 𝓛 (Forms.asking R F) c ((κs, qs, tt, a, vals κs qs a), g) (Passing.answer_val F κs r) (Passing.returned F κs r) (Passing.call_lasts R F κs a n s ws) (φ (Passing.returned F κs r) (Passing.call_lasts R F κs a n s ws))
         (says (Passing.returned F κs r) (Passing.call_lasts R F κs a n s ws)) (joined r ws p) [] (‵ (flft κs.0 qs.0) ⊛ handed) refl tt)
 
     pub answered : (us : Known) (xs : List Operand)

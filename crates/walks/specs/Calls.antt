@@ -3,7 +3,7 @@
 use Rattle.std.specs.Prelude.{◌≡◌, List, [], ◌∷◌}
 use Rattle.std.proofs.Common.{sym, ap, subst}
 use seplogic.Ra.Ura.{Ura}
-use mir.Syntax.{Name, Place, Opd as Operand, Body, seq, call}
+use mir.Syntax.{Callee, Place, Opd as Operand, Body, seq, call}
 use mir.Val.{Val}
 use base.Logic.{SProp, ent, sep, emp, id⊢, via, mono∗, mono_l, mono_r, emp∗, comm∗}
 use base.Fml.{Lft, Share}
@@ -39,22 +39,22 @@ pays {𝓤 = 𝓤} 𝓛 T c y tokens makes are asked =
 -- plain values.
 pub pays_lent : {M : Type 1} {𝓤 : Ura M} (𝓛 : Logic 𝓤) (κ : Lft) (q : Share) (R : RattleType) (x : R.Denot) (vs : List Val) (Rs : List RattleType) (a : Denots Rs) (vss : Valss Rs)
     (asks : SProp 𝓤) → Makess 𝓛 Rs (Ises Rs) → Are Rs (Ises Rs) a vss → ent 𝓤 (emp 𝓤) asks
-    → ent 𝓤 (sep 𝓤 (𝓛.A.lft κ q) (sem 𝓛 (R.own x vs))) (sep 𝓤 (sep 𝓤 (sep 𝓤 (𝓛.A.lft κ q) (emp 𝓤)) (sem 𝓛 (owns (R ∷ Rs) (x, a) (vs, vss)))) asks)
+    → ent 𝓤 (sep 𝓤 (𝓛.A.lft κ q) (sem 𝓛 (R.own_val x vs))) (sep 𝓤 (sep 𝓤 (sep 𝓤 (𝓛.A.lft κ q) (emp 𝓤)) (sem 𝓛 (owns (R ∷ Rs) (x, a) (vs, vss)))) asks)
 pays_lent {𝓤 = 𝓤} 𝓛 κ q R x vs Rs a vss asks makes are asked =
-    via 𝓤 _ (add 𝓤 (sep 𝓤 (𝓛.A.lft κ q) (sem 𝓛 (R.own x vs))) asked)
-    (mono_l 𝓤 asks (mono∗ 𝓤 (add 𝓤 (𝓛.A.lft κ q) (id⊢ 𝓤 (emp 𝓤))) (add 𝓤 (sem 𝓛 (R.own x vs)) (owns_make 𝓛 Rs (Ises Rs) makes a vss are))))
+    via 𝓤 _ (add 𝓤 (sep 𝓤 (𝓛.A.lft κ q) (sem 𝓛 (R.own_val x vs))) asked)
+    (mono_l 𝓤 asks (mono∗ 𝓤 (add 𝓤 (𝓛.A.lft κ q) (id⊢ 𝓤 (emp 𝓤))) (add 𝓤 (sem 𝓛 (R.own_val x vs)) (owns_make 𝓛 Rs (Ises Rs) makes a vss are))))
   where
     add : {M : Type 1} (𝓤 : Ura M) (P : SProp 𝓤) {Q : SProp 𝓤} → ent 𝓤 (emp 𝓤) Q → ent 𝓤 P (sep 𝓤 P Q)
     add 𝓤 P h = via 𝓤 _ (emp∗ 𝓤 P) (via 𝓤 _ (comm∗ 𝓤 (emp 𝓤) P) (mono_r 𝓤 P h))
 
 module _ {M : Type 1} {𝓤 : Ura M} {𝓛 : Logic 𝓤} {K : Type 0} {Γ : List (Item 𝓤)} where
+  open 𝓛 use {H}
+
   -- The call of a function with the clauses c, at y: its lifetimes, tokens, arguments and their
   -- machine values. `back` is what comes back of the tokens. `spelled` writes a result as a machine
   -- value, and φ is what the callee promises of its result and of the last values of what it was
   -- lent.
-  open 𝓛 use {H}
-
-  module _ {E : Env 𝓤 H} {C : Calls 𝓤 H} {Λ : Loops 𝓤 H} {q : Post 𝓤 H} {f : Name} {xs : List Operand} {d : Place} {rest : Body} (t : K) (fm : FmC 𝓤 H 𝓛.laws C)
+  module _ {E : Env 𝓤 H} {C : Calls 𝓤 H} {Λ : Loops 𝓤 H} {q : Post 𝓤 H} {f : Callee} {xs : List Operand} {d : Place} {rest : Body} (t : K) (fm : FmC 𝓤 H 𝓛.laws C)
       (T : Ended) (c : Clauses 𝓤 T) (known : Triple 𝓤 (C f) (triple_of 𝓛 T.signature (closing 𝓛 T c))) (y : (triple_of 𝓛 T.signature (closing 𝓛 T c)).Ghost)
       (back : Item 𝓤) (e : mean 𝓛 back ≡ alive 𝓛 T.signature y.0.0 y.0.1)
       (spelled : Res T.signature y.0.0 → Val) (tells : Tells (type_at T.signature.result y.0.0) (Is (type_at T.signature.result y.0.0)) (λ r. spelled r ∷ []))

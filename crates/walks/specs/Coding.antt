@@ -39,7 +39,7 @@ tail (l ∷ ls) = ls
 
 -- The function, its first local in sight.
 abbrev pub trimmed : Fn → Fn
-trimmed f = record { lifetimes = f.lifetimes; outlives = f.outlives; params = f.params; locals = head f.locals ∷ tail f.locals; body = f.body }
+trimmed f = record { lifetimes = f.lifetimes; outlives = f.outlives; ty_params = f.ty_params; givens = f.givens; params = f.params; locals = head f.locals ∷ tail f.locals; body = f.body }
 
 -- The label sheet's local, where ws are the widths of the numbers before it; and the local past the
 -- things lent.
@@ -57,7 +57,7 @@ abbrev lent_on : (n j s p : ℕ) (ks : List Lent) (κs : Lfts n) → Denots (typ
 lent_on n j s p [] κs a = []
 lent_on n j s p (sheet R ∷ ks) κs a =
     lend s p (suc p) a.0.ref_ptr.0 a.0.ref_ptr.1 (length a.0.now) (ty_ref (named j) mut (lone R.mir)) (lone R.mir) ∷ lent_on n (suc j) (suc s) (suc (suc p)) ks κs a.1
-lent_on n j s p (cell R ∷ ks) κs a = pass s p a.0.ptr.0 a.0.ptr.1 (lone R.mir) ∷ lent_on n (suc j) (suc s) (suc p) ks κs a.1
+lent_on n j s p (cell R ∷ ks) κs a = pass s p a.0.ref_ptr.0 a.0.ref_ptr.1 (lone R.mir) ∷ lent_on n (suc j) (suc s) (suc p) ks κs a.1
 lent_on n j s p (shown R ∷ ks) κs a = lent_on n (suc j) (suc s) p ks κs a.1
 lent_on n j s p (spent R ∷ ks) κs a =
     lend s p (suc p) a.0.ref_ptr.0 a.0.ref_ptr.1 (length a.0.now) (ty_ref (named j) mut (lone R.mir)) (lone R.mir) ∷ lent_on n (suc j) (suc s) (suc (suc p)) ks κs a.1

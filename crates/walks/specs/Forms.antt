@@ -15,8 +15,8 @@ use Rattle.std.specs.Borrow.{RattleType, u8, usize}
 use denote.Exit.{Kept, yes, no}
 use denote.Laws.{Is, Ises, Spells, Tells, Tellss, Lawful, Lawfuls}
 use denote.Plain.{UInt, uint_vals, uint_Tells, uint_Lawful}
-use denote.Ref.{MutRef, shr_vals, mut_Tells, mut_Lawful}
-use denote.Slice.{MutSlice, ShrSlice, slice_val, shr_slice_vals, mut_slice_Tells, shr_slice_Tells, mut_slice_Lawful, shr_slice_Lawful}
+use denote.Ref.{MutRef, mut_vals, mut_Tells, mut_Lawful}
+use denote.Slice.{MutSlice, ShrSlice, slice_val, shr_slice_vals, mut_slice_vals, mut_slice_Tells, shr_slice_Tells, mut_slice_Lawful, shr_slice_Lawful}
 use denote.Signature.{Slot, plain, types_at}
 use denote.Triple.Clauses.{Ended}
 use denote.Triple.End.{Kepts}
@@ -57,10 +57,10 @@ type_of j κ (shown R) = ShrSlice (named j) κ R
 type_of j κ (spent R) = MutSlice (named j) κ R
 
 abbrev vals_of : (j : ℕ) (κ : Lft) (k : Lent) → (type_of j κ k).Denot → List Val
-vals_of j κ (sheet R) = shr_slice_vals
-vals_of j κ (cell R) = shr_vals
+vals_of j κ (sheet R) = mut_slice_vals
+vals_of j κ (cell R) = mut_vals
 vals_of j κ (shown R) = shr_slice_vals
-vals_of j κ (spent R) = shr_slice_vals
+vals_of j κ (spent R) = mut_slice_vals
 
 tells_of : (j : ℕ) (κ : Lft) (k : Lent) → Tells (type_of j κ k) (Is (type_of j κ k)) (vals_of j κ k)
 tells_of j κ (sheet R) = mut_slice_Tells (named j) κ R
@@ -174,7 +174,7 @@ num_tells (w ∷ ws) ss κs sp tl = (uint_Tells w, num_tells ws ss κs sp tl)
 
 module _ (R : RattleType) (F : Form) (κs : Lfts (suc (suc (count F.lent)))) where
   abbrev pub asking_spells : Spells (types_at (asking_params R F) κs)
-  asking_spells = (shr_slice_vals, (uint_vals w64, num_spells (asked_nums F.widths) _ κs (shr_slice_vals, lent_spells (suc (suc (count F.lent))) 2 F.lent κs)))
+  asking_spells = (shr_slice_vals, (uint_vals w64, num_spells (asked_nums F.widths) _ κs (mut_slice_vals, lent_spells (suc (suc (count F.lent))) 2 F.lent κs)))
 
   pub asking_tells : Tellss (types_at (asking_params R F) κs) (Ises (types_at (asking_params R F) κs)) asking_spells
   asking_tells =

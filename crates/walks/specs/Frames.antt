@@ -5,14 +5,14 @@
 use Rattle.std.specs.Prelude.{List, [], ◌∷◌, ◌++◌, ℕ, T}
 use Rattle.std.proofs.Math.Option.{Option, none, some}
 use seplogic.Ra.Ura.{Ura}
-use seplogic.Ra.TreeShare.{full_share}
+use base.Fraction.{full_share}
 use mir.Syntax.{Ty, Fn, Local}
 use mir.Val.{Val, has_ty, WT}
-use base.Logic.{SProp, ent, sep, wand, emp, id⊢, via, mono_l, mono_r, fst∗, snd∗, emp∗, assoc∗, assoc', wand_i, all_i, guard_i}
+use base.Logic.{SProp, ent, sep, emp, id⊢, via, mono_r, snd∗, emp∗, assoc∗, assoc', wand_i, all_i}
 use base.Fml.{fat, froom}
 use prog.Wp.{Env, Calls, Loops, WpFn, ty_of, alloc, params, pass, release}
 use types.Logic.{Logic}
-use types.Kit.{Item, ‵, raw, ◌⊛◌, mean, ⋆, pop, push, ++⊢, ⊢++, Goal, Seq, prop, runs, at_ret, frees, aim, ◌$◌, ◌∵◌, !, qed, by, move, use1, split, join, check, assume, frame}
+use types.Kit.{Item, ‵, raw, ◌⊛◌, mean, ⋆, pop, push, ++⊢, ⊢++, Seq, prop, runs, at_ret, frees, ◌$◌, ◌∵◌, !, qed, by, move, use1, split, join, check, assume, frame}
 
 -- What is known of the locals: the value of each, or none where it has none or it no longer
 -- matters.
@@ -37,10 +37,10 @@ Blocks [] = Unit {0}
 Blocks (l ∷ ls) = ℕ × Blocks ls
 
 module _ {M : Type 1} {𝓤 : Ura M} (𝓛 : Logic 𝓤) where
-  -- The arguments have the types of the locals in which they are stored. The first local is the
-  -- result, and the arguments come after it.
   open 𝓛 use {H}
 
+  -- The arguments have the types of the locals in which they are stored. The first local is the
+  -- result, and the arguments come after it.
   abbrev Stored : List Local → List Val → Type 0
   Stored ls [] = Unit {0}
   Stored [] (v ∷ vs) = ⊥
@@ -58,75 +58,73 @@ module _ {M : Type 1} {𝓤 : Ura M} (𝓛 : Logic 𝓤) where
   dying [] = emp 𝓤
   dying (e ∷ E) = sep 𝓤 (H.dies e.0 e.1) (dying E)
 
-  module _ where
-    abbrev pub cell : Ty × ℕ → Option Val → Item 𝓤
-    cell e none = ‵ (froom e.0 e.1 0)
-    cell e (some v) = ‵ (fat full_share e.0 e.1 0 v)
+  abbrev pub cell : Ty × ℕ → Option Val → Item 𝓤
+  cell e none = ‵ (froom e.0 e.1 0)
+  cell e (some v) = ‵ (fat full_share e.0 e.1 0 v)
 
-    abbrev pub cells : Env 𝓤 H → Known → List (Item 𝓤) → List (Item 𝓤)
-    cells [] vs Γ = Γ
-    cells (e ∷ E) vs Γ = cell e (first vs) ∷ cells E (rest vs) Γ
+  abbrev pub cells : Env 𝓤 H → Known → List (Item 𝓤) → List (Item 𝓤)
+  cells [] vs Γ = Γ
+  cells (e ∷ E) vs Γ = cell e (first vs) ∷ cells E (rest vs) Γ
 
-    -- The locals, and then Γ.
-    abbrev pub locals : Env 𝓤 H → Known → List (Item 𝓤) → List (Item 𝓤)
-    locals E vs Γ = cells E vs (raw (dying E) ∷ Γ)
+  -- The locals, and then Γ.
+  abbrev pub locals : Env 𝓤 H → Known → List (Item 𝓤) → List (Item 𝓤)
+  locals E vs Γ = cells E vs (raw (dying E) ∷ Γ)
 
-    -- The same as one assertion.
-    abbrev all_of : Env 𝓤 H → Known → SProp 𝓤
-    all_of [] vs = emp 𝓤
-    all_of (e ∷ E) vs = sep 𝓤 (mean 𝓛 (cell e (first vs))) (all_of E (rest vs))
+  -- The same as one assertion.
+  abbrev all_of : Env 𝓤 H → Known → SProp 𝓤
+  all_of [] vs = emp 𝓤
+  all_of (e ∷ E) vs = sep 𝓤 (mean 𝓛 (cell e (first vs))) (all_of E (rest vs))
 
-    out : (E : Env 𝓤 H) (vs : Known) (Γ : List (Item 𝓤)) → ent 𝓤 (⋆ 𝓛 (cells E vs Γ)) (sep 𝓤 (all_of E vs) (⋆ 𝓛 Γ))
-    out [] vs Γ = emp∗ 𝓤 (⋆ 𝓛 Γ)
-    out (e ∷ E) vs Γ =
-        let c = cell e (first vs) in
-        via 𝓤 _ (pop 𝓛 c (cells E (rest vs) Γ))
-        (via 𝓤 _ (mono_r 𝓤 (mean 𝓛 c) (out E (rest vs) Γ)) (assoc' 𝓤 (mean 𝓛 c) (all_of E (rest vs)) (⋆ 𝓛 Γ)))
+  out : (E : Env 𝓤 H) (vs : Known) (Γ : List (Item 𝓤)) → ent 𝓤 (⋆ 𝓛 (cells E vs Γ)) (sep 𝓤 (all_of E vs) (⋆ 𝓛 Γ))
+  out [] vs Γ = emp∗ 𝓤 (⋆ 𝓛 Γ)
+  out (e ∷ E) vs Γ =
+      let c = cell e (first vs) in
+      via 𝓤 _ (pop 𝓛 c (cells E (rest vs) Γ))
+      (via 𝓤 _ (mono_r 𝓤 (mean 𝓛 c) (out E (rest vs) Γ)) (assoc' 𝓤 (mean 𝓛 c) (all_of E (rest vs)) (⋆ 𝓛 Γ)))
 
-    back : (E : Env 𝓤 H) (vs : Known) (Γ : List (Item 𝓤)) → ent 𝓤 (sep 𝓤 (all_of E vs) (⋆ 𝓛 Γ)) (⋆ 𝓛 (cells E vs Γ))
-    back [] vs Γ = snd∗ 𝓤 (emp 𝓤) (⋆ 𝓛 Γ)
-    back (e ∷ E) vs Γ =
-        let c = cell e (first vs) in
-        via 𝓤 _ (assoc∗ 𝓤 (mean 𝓛 c) (all_of E (rest vs)) (⋆ 𝓛 Γ))
-        (via 𝓤 _ (mono_r 𝓤 (mean 𝓛 c) (back E (rest vs) Γ)) (push 𝓛 c (cells E (rest vs) Γ)))
+  back : (E : Env 𝓤 H) (vs : Known) (Γ : List (Item 𝓤)) → ent 𝓤 (sep 𝓤 (all_of E vs) (⋆ 𝓛 Γ)) (⋆ 𝓛 (cells E vs Γ))
+  back [] vs Γ = snd∗ 𝓤 (emp 𝓤) (⋆ 𝓛 Γ)
+  back (e ∷ E) vs Γ =
+      let c = cell e (first vs) in
+      via 𝓤 _ (assoc∗ 𝓤 (mean 𝓛 c) (all_of E (rest vs)) (⋆ 𝓛 Γ))
+      (via 𝓤 _ (mono_r 𝓤 (mean 𝓛 c) (back E (rest vs) Γ)) (push 𝓛 c (cells E (rest vs) Γ)))
 
-    module _ where
-      -- A local's room is there, whatever it holds.
-      room : (e : Ty × ℕ) (v : Option Val) → ent 𝓤 (mean 𝓛 (cell e v)) (H.room e.0 e.1 0)
-      room e none = id⊢ 𝓤 _
-      room e (some v) = 𝓛.laws.at_room e.0 e.1 0 v
+  -- A local's room is there, whatever it holds.
+  room : (e : Ty × ℕ) (v : Option Val) → ent 𝓤 (mean 𝓛 (cell e v)) (H.room e.0 e.1 0)
+  room e none = id⊢ 𝓤 _
+  room e (some v) = 𝓛.laws.at_room e.0 e.1 0 v
 
-      freed : (E : Env 𝓤 H) (vs : Known) (P : SProp 𝓤) → ent 𝓤 (sep 𝓤 (all_of E vs) (sep 𝓤 (dying E) P)) (release 𝓤 H E P)
-      freed [] vs P = via 𝓤 _ (snd∗ 𝓤 (emp 𝓤) (sep 𝓤 (emp 𝓤) P)) (snd∗ 𝓤 (emp 𝓤) P)
-      freed (e ∷ E) vs P =
-          qed 𝓛 ((cell e (first vs) ⊛ raw (all_of E (rest vs))) ∷ (raw (H.dies e.0 e.1) ⊛ raw (dying E)) ∷ raw P ∷ []) ∵
-          split ! $ use1 𝓛 (raw (H.room e.0 e.1 0)) (room e (first vs)) $ move ! (2 ∷ []) $ split ! $ move ! (2 ∷ 0 ∷ []) $ join ! $ frame ! $
-          move ! (1 ∷ 0 ∷ 2 ∷ []) $ by ! (freed E (rest vs) P)
+  freed : (E : Env 𝓤 H) (vs : Known) (P : SProp 𝓤) → ent 𝓤 (sep 𝓤 (all_of E vs) (sep 𝓤 (dying E) P)) (release 𝓤 H E P)
+  freed [] vs P = via 𝓤 _ (snd∗ 𝓤 (emp 𝓤) (sep 𝓤 (emp 𝓤) P)) (snd∗ 𝓤 (emp 𝓤) P)
+  freed (e ∷ E) vs P =
+      qed 𝓛 ((cell e (first vs) ⊛ raw (all_of E (rest vs))) ∷ (raw (H.dies e.0 e.1) ⊛ raw (dying E)) ∷ raw P ∷ []) ∵
+      split ! $ use1 𝓛 (raw (H.room e.0 e.1 0)) (room e (first vs)) $ move ! (2 ∷ []) $ split ! $ move ! (2 ∷ 0 ∷ []) $ join ! $ frame ! $
+      move ! (1 ∷ 0 ∷ 2 ∷ []) $ by ! (freed E (rest vs) P)
 
-      -- A local for each of a list is made, in a block that the machine picks.
-      made : (ls : List Local) (Kt : Env 𝓤 H → SProp 𝓤) (R : SProp 𝓤)
-          → ((bs : Blocks ls) → ent 𝓤 (sep 𝓤 (all_of (env_of ls bs) []) (sep 𝓤 (dying (env_of ls bs)) R)) (Kt (env_of ls bs))) → ent 𝓤 R (alloc 𝓤 H ls Kt)
-      made [] Kt R k = via 𝓤 _ (emp∗ 𝓤 R) (via 𝓤 _ (emp∗ 𝓤 (sep 𝓤 (emp 𝓤) R)) (k tt))
-      made (l ∷ ls) Kt R k =
-          all_i 𝓤 _ (λ b.
-          let τ = ty_of 𝓤 H l in
-          wand_i 𝓤 R (sep 𝓤 (H.room τ b 0) (H.dies τ b)) _
-          (made ls (λ E. Kt ((τ, b) ∷ E)) (sep 𝓤 R (sep 𝓤 (H.room τ b 0) (H.dies τ b))) (λ bs.
-          qed 𝓛 (raw (all_of (env_of ls bs) []) ∷ raw (dying (env_of ls bs)) ∷ raw R ∷ raw (H.room τ b 0) ∷ raw (H.dies τ b) ∷ []) ∵
-          move ! (3 ∷ 0 ∷ []) $ join ! $ move ! (3 ∷ 1 ∷ []) $ join ! $ move ! (1 ∷ 0 ∷ []) $ by ! (k (b, bs)))))
+  -- A local for each of a list is made, in a block that the machine picks.
+  made : (ls : List Local) (Kt : Env 𝓤 H → SProp 𝓤) (R : SProp 𝓤)
+      → ((bs : Blocks ls) → ent 𝓤 (sep 𝓤 (all_of (env_of ls bs) []) (sep 𝓤 (dying (env_of ls bs)) R)) (Kt (env_of ls bs))) → ent 𝓤 R (alloc 𝓤 H ls Kt)
+  made [] Kt R k = via 𝓤 _ (emp∗ 𝓤 R) (via 𝓤 _ (emp∗ 𝓤 (sep 𝓤 (emp 𝓤) R)) (k tt))
+  made (l ∷ ls) Kt R k =
+      all_i 𝓤 _ (λ b.
+      let τ = ty_of 𝓤 H l in
+      wand_i 𝓤 R (sep 𝓤 (H.room τ b 0) (H.dies τ b)) _
+      (made ls (λ E. Kt ((τ, b) ∷ E)) (sep 𝓤 R (sep 𝓤 (H.room τ b 0) (H.dies τ b))) (λ bs.
+      qed 𝓛 (raw (all_of (env_of ls bs) []) ∷ raw (dying (env_of ls bs)) ∷ raw R ∷ raw (H.room τ b 0) ∷ raw (H.dies τ b) ∷ []) ∵
+      move ! (3 ∷ 0 ∷ []) $ join ! $ move ! (3 ∷ 1 ∷ []) $ join ! $ move ! (1 ∷ 0 ∷ []) $ by ! (k (b, bs)))))
 
-      -- The arguments are stored.
-      stored : (ls : List Local) (bs : Blocks ls) (vs : List Val) → Stored ls vs → (R P : SProp 𝓤)
-          → ent 𝓤 (sep 𝓤 (all_of (env_of ls bs) (these vs)) R) P → ent 𝓤 (sep 𝓤 (all_of (env_of ls bs) []) R) (pass 𝓤 H (env_of ls bs) vs P)
-      stored ls bs [] ok R P k = k
-      stored [] bs (v ∷ vs) ok R P k = absurd ok
-      stored (l ∷ ls) bs (v ∷ vs) ok R P k =
-          let τ = ty_of 𝓤 H l in
-          let E = env_of ls bs.1 in
-          let Q = pass 𝓤 H E vs P in
-          qed 𝓛 ((raw (H.room τ bs.0 0) ⊛ raw (all_of E [])) ∷ raw R ∷ []) ∵ check ! ok.0 $ split ! $ frame ! $ assume ! (‵ (fat full_share τ bs.0 0 v)) $
-          move ! (1 ∷ 0 ∷ 2 ∷ []) $ by ! (stored ls bs.1 vs ok.1 (sep 𝓤 (H.at full_share τ bs.0 0 v) R) P
-          (qed 𝓛 (raw (all_of E (these vs)) ∷ ‵ (fat full_share τ bs.0 0 v) ∷ raw R ∷ []) ∵ move ! (1 ∷ 0 ∷ []) $ join ! $ by ! k))
+  -- The arguments are stored.
+  stored : (ls : List Local) (bs : Blocks ls) (vs : List Val) → Stored ls vs → (R P : SProp 𝓤)
+      → ent 𝓤 (sep 𝓤 (all_of (env_of ls bs) (these vs)) R) P → ent 𝓤 (sep 𝓤 (all_of (env_of ls bs) []) R) (pass 𝓤 H (env_of ls bs) vs P)
+  stored ls bs [] ok R P k = k
+  stored [] bs (v ∷ vs) ok R P k = absurd ok
+  stored (l ∷ ls) bs (v ∷ vs) ok R P k =
+      let τ = ty_of 𝓤 H l in
+      let E = env_of ls bs.1 in
+      let Q = pass 𝓤 H E vs P in
+      qed 𝓛 ((raw (H.room τ bs.0 0) ⊛ raw (all_of E [])) ∷ raw R ∷ []) ∵ check ! ok.0 $ split ! $ frame ! $ assume ! (‵ (fat full_share τ bs.0 0 v)) $
+      move ! (1 ∷ 0 ∷ 2 ∷ []) $ by ! (stored ls bs.1 vs ok.1 (sep 𝓤 (H.at full_share τ bs.0 0 v) R) P
+      (qed 𝓛 (raw (all_of E (these vs)) ∷ ‵ (fat full_share τ bs.0 0 v) ∷ raw R ∷ []) ∵ move ! (1 ∷ 0 ∷ []) $ join ! $ by ! k))
 
 -- A function is entered: what is left to walk is its body, with its locals in front, of which the
 -- arguments are known.

@@ -28,7 +28,7 @@ module _ {M : Type 1} {𝓤 : Ura M} (𝓛 : Logic 𝓤) where
   abbrev pub had : Marks → (Rs : List RattleType) → Denots Rs → Valss Rs → List (Item 𝓤)
   had ms [] a vss = []
   had [] (R ∷ Rs) a vss = ‵ (owns (R ∷ Rs) a vss) ∷ []
-  had (true ∷ ms) (R ∷ Rs) a vss = ‵ (R.own a.0 vss.0) ∷ had ms Rs a.1 vss.1
+  had (true ∷ ms) (R ∷ Rs) a vss = ‵ (R.own_val a.0 vss.0) ∷ had ms Rs a.1 vss.1
   had (false ∷ ms) (R ∷ Rs) a vss = had ms Rs a.1 vss.1
 
   abbrev pub Made : Marks → (Rs : List RattleType) → Denots Rs → Valss Rs → Type 1
@@ -41,7 +41,7 @@ module _ {M : Type 1} {𝓤 : Ura M} (𝓛 : Logic 𝓤) where
   owns_had ms [] a vss mk = id⊢ 𝓤 (emp 𝓤)
   owns_had [] (R ∷ Rs) a vss mk = id⊢ 𝓤 _
   owns_had (true ∷ ms) (R ∷ Rs) a vss mk =
-      via 𝓤 _ (pop 𝓛 (‵ (R.own a.0 vss.0)) (had ms Rs a.1 vss.1)) (mono_r 𝓤 (sem 𝓛 (R.own a.0 vss.0)) (owns_had ms Rs a.1 vss.1 mk))
+      via 𝓤 _ (pop 𝓛 (‵ (R.own_val a.0 vss.0)) (had ms Rs a.1 vss.1)) (mono_r 𝓤 (sem 𝓛 (R.own_val a.0 vss.0)) (owns_had ms Rs a.1 vss.1 mk))
   owns_had (false ∷ ms) (R ∷ Rs) a vss mk =
       via 𝓤 _ (emp∗ 𝓤 (⋆ 𝓛 (had ms Rs a.1 vss.1))) (mono∗ 𝓤 (mk.0.0 a.0 vss.0 mk.0.1) (owns_had ms Rs a.1 vss.1 mk.1))
 
@@ -49,8 +49,8 @@ module _ {M : Type 1} {𝓤 : Ura M} (𝓛 : Logic 𝓤) where
   had_owns ms [] a vss = id⊢ 𝓤 (emp 𝓤)
   had_owns [] (R ∷ Rs) a vss = id⊢ 𝓤 _
   had_owns (true ∷ ms) (R ∷ Rs) a vss =
-      via 𝓤 _ (mono_r 𝓤 (sem 𝓛 (R.own a.0 vss.0)) (had_owns ms Rs a.1 vss.1)) (push 𝓛 (‵ (R.own a.0 vss.0)) (had ms Rs a.1 vss.1))
-  had_owns (false ∷ ms) (R ∷ Rs) a vss = via 𝓤 _ (snd∗ 𝓤 (sem 𝓛 (R.own a.0 vss.0)) (sem 𝓛 (owns Rs a.1 vss.1))) (had_owns ms Rs a.1 vss.1)
+      via 𝓤 _ (mono_r 𝓤 (sem 𝓛 (R.own_val a.0 vss.0)) (had_owns ms Rs a.1 vss.1)) (push 𝓛 (‵ (R.own_val a.0 vss.0)) (had ms Rs a.1 vss.1))
+  had_owns (false ∷ ms) (R ∷ Rs) a vss = via 𝓤 _ (snd∗ 𝓤 (sem 𝓛 (R.own_val a.0 vss.0)) (sem 𝓛 (owns Rs a.1 vss.1))) (had_owns ms Rs a.1 vss.1)
 
   -- The same of what is said of the parameters at exit: nothing is said of a plain one.
   module _ {n : ℕ} (κs : Lfts n) where
@@ -91,9 +91,9 @@ add : {M : Type 1} (𝓤 : Ura M) (P : SProp 𝓤) {Q : SProp 𝓤} → ent 𝓤
 add 𝓤 P h = via 𝓤 _ (emp∗ 𝓤 P) (via 𝓤 _ (comm∗ 𝓤 (emp 𝓤) P) (mono_r 𝓤 P h))
 
 module _ {M : Type 1} {𝓤 : Ura M} {𝓛 : Logic 𝓤} where
-  -- Of what the parameters own, the marked ones are taken.
   open 𝓛 use {H}
 
+  -- Of what the parameters own, the marked ones are taken.
   pub takes : {K : Type 0} {Γ : List (Item 𝓤)} {G : Goal 𝓤 H} (Rs : List RattleType) (a : Denots Rs) (vss : Valss Rs) (ms : Marks)
       → Step K 𝓛 (had 𝓛 ms Rs a vss ++ Γ) G (‵ (owns Rs a vss) ∷ Γ) G
   takes {Γ} Rs a vss ms = cut (‵ (owns Rs a vss) ∷ []) (had 𝓛 ms Rs a vss) Γ (had_owns 𝓛 ms Rs a vss)
@@ -115,6 +115,7 @@ module _ {M : Type 1} {𝓤 : Ura M} {𝓛 : Logic 𝓤} where
   hears {Γ} T κs a ws ms =
       cut (‵ (lasts T κs a ws) ∷ []) (told 𝓛 κs ms T.signature.params T.kept a ws) Γ (told_lasts 𝓛 κs ms T.signature.params T.kept a ws)
 
+module _ {M : Type 1} {𝓤 : Ura M} (𝓛 : Logic 𝓤) where
   -- A walk ends at the machine value v, with the result r and the last values ws: the tokens, and
   -- what is said of the parameters at hand.
   module _ (T : Ended) (c : Clauses 𝓤 T) (y : (Promised 𝓛 T c).Ghost) (v : Val) (r : Res T.signature y.0.0) (ws : Lasts T y.0.0 y.0.3) (φ : Type 0)

@@ -5,37 +5,47 @@
 use Rattle.std.specs.Prelude.{◌≡◌, refl, List, [], ◌∷◌, ℕ, length}
 use Rattle.std.proofs.Common.{sym, ap, subst, ◌∙◌}
 use seplogic.Ra.Ura.{Ura}
-use seplogic.Ra.TreeShare.{full_share}
+use base.Fraction.{full_share}
 use mir.Syntax.{erased}
 use mir.Val.{Val}
 use base.Stored.{Gv}
-use base.Fml.{Lft, GName, Share, Fml, fsep, feq, flft, fobs, fauth, fres, fobor, flent}
+use base.Fml.{Lft, GName, Share, Fml, Incl-refl, flft, fobs, fauth, fres, fbor, fobor, flent}
 use types.Logic.{Logic}
-use types.Kit.{Item, ‵, ◌⊛◌, some, later, Goal, Soaks, Seq, Step, step, ◌$◌, move, drop, use1, use3, split, join, pick, await, rewrite, fsplit, fjoin, feq_l, feq_i}
+use types.Kit.{Item, ‵, ◌⊛◌, some, later, Goal, Soaks, Seq, Step, step, ◌$◌, move, drop, use1, use2, use3, split, join, pick, await, rewrite, fsplit, fjoin, feq_l, feq_i}
 use types.SemTy.{cells, Arr}
 use types.Share.{arr_parts}
 use types.Tokens.{lft_new, lft_end, lent_back}
 use Rattle.std.specs.Borrow.{RattleType, MutBor}
+use denote.Ref.{Bor}
+use denote.RattleType.{RowLaws}
 use denote.Shadow.{pure_l, pure_i}
 use denote.Memory.{mem, shares}
+use denote.Exit.{left, yes}
 use denote.Slice.{slice_val, MutSlice, ShrSlice, heres, Room, finally, res-finally, mut_slice_at, coded_holeys, shr_slice_copy}
 use denote.Lend.{Held, lends_slice, slice_back, lends_shr_slice}
+use denote.Copied.{Copied}
+use denote.Shares.{Shares}
 use denote.Index.{row, whole_out, whole_in, opens_slice, closes_slice}
 
--- A slice at (b, o), known by the ghost name γ, whose elements are ys.
+-- A slice at (b, o), whose elements are ys: as `&mut` it is known by the ghost name γ, and as `&` it
+-- has no name.
 abbrev pub slice_at : {X : Type 0} → ℕ → ℕ → GName → List X → MutBor (List X)
 slice_at b o γ ys = record { ref_ptr = (b, o); ghost_name = γ; now = ys }
+
+abbrev pub shr_slice_of : {X : Type 0} → ℕ → ℕ → List X → Bor (List X)
+shr_slice_of b o ys = record { ref_ptr = (b, o); now = ys }
 
 -- What is owned of a `&κ mut [T]` and of a `&κ [T]`, passed as the machine values vs.
 abbrev pub mut_own : Lft → (R : RattleType) → ℕ → ℕ → GName → List R.Denot → List Val → Fml
 mut_own κ R b o γ ys vs = (MutSlice erased κ R).own_val (slice_at b o γ ys) vs
 
-abbrev pub shr_own : Lft → (R : RattleType) → ℕ → ℕ → GName → List R.Denot → List Val → Fml
-shr_own κ R b o γ ys vs = (ShrSlice erased κ R).own_val (slice_at b o γ ys) vs
+abbrev pub shr_own : Lft → (R : RattleType) → ℕ → ℕ → List R.Denot → List Val → Fml
+shr_own κ R b o ys vs = (ShrSlice erased κ R).own_val (shr_slice_of b o ys) vs
 
--- What is said at exit of a `&mut [T]` whose elements were ys and are zs.
-abbrev pub lastly : (R : RattleType) → GName → List R.Denot → List R.Denot → Fml
-lastly R γ ys zs = fsep (finally R γ zs) (feq ℕ (length zs) (length ys))
+-- What is said at exit of a `&κ mut [T]` whose elements were ys and are zs: that these are its last,
+-- and as many; and its borrow comes back.
+abbrev pub lastly : Lft → (R : RattleType) → ℕ → ℕ → GName → List R.Denot → List R.Denot → Fml
+lastly κ R b o γ ys zs = left ((MutSlice erased κ R).exit yes) (slice_at b o γ ys) zs
 
 abbrev code : (R : RattleType) → List R.Denot → Gv
 code R ys = (coded_holeys R).code (heres R ys)
@@ -58,6 +68,10 @@ module _ {M : Type 1} (𝓤 : Ura M) where
   abbrev pub shown : Lft → Share → (R : RattleType) → ℕ → ℕ → GName → List R.Denot → ℕ → Item 𝓤
   shown κ q R b o γ ys ν = ‵ (flent (ν ∷ []) ((arr_parts (shares R) (length ys)).part full_share ys b o)) ⊛ opened κ q R b o γ ys
 
+-- A type that is Copy, as a number is, can be lent as `&`.
+pub copies_show : {M : Type 1} {𝓤 : Ura M} (𝓛 : Logic 𝓤) (R : RattleType) → Copied 𝓛 R → (ν : ℕ) → Shares 𝓛 R (ν ∷ [])
+copies_show 𝓛 R copied ν = copied.shares full_share (ν ∷ [])
+
 module _ {M : Type 1} {𝓤 : Ura M} {𝓛 : Logic 𝓤} {K : Type 0} {Γ : List (Item 𝓤)} {G : Goal 𝓤 𝓛.H} where
   -- A row is lent as `&mut`, and taken back with the elements that the callee says it leaves.
   pub lends_row : K → Soaks G → (R : RattleType) (b o : ℕ) (ys : List R.Denot) (vs : List Val) → SliceIs R b o ys vs
@@ -70,20 +84,21 @@ module _ {M : Type 1} {𝓤 : Ura M} {𝓛 : Logic 𝓤} {K : Type 0} {Γ : List
 
   pub row_back : K → Soaks G → (R : RattleType) (b o : ℕ) (ys zs : List R.Denot) (ν : ℕ) (δ : GName)
       → (length zs ≡ length ys → Seq K 𝓛 (‵ (row R full_share zs b o) ∷ Γ) G)
-      → Seq K 𝓛 (‵ (flft (ν ∷ []) full_share) ∷ ‵ (flent (ν ∷ []) (Held R (length ys) b o δ)) ∷ ‵ (lastly R δ ys zs) ∷ Γ) G
+      → Seq K 𝓛 (‵ (flft (ν ∷ []) full_share) ∷ ‵ (flent (ν ∷ []) (Held R (length ys) b o δ)) ∷ ‵ (lastly (ν ∷ []) R b o δ ys zs) ∷ Γ) G
   row_back t z R b o ys zs ν δ k =
-      lft_end t z $ move t (2 ∷ []) $ fsplit t $ move t (1 ∷ []) $ feq_l t (λ e. move t (1 ∷ 2 ∷ 0 ∷ []) $
+      lft_end t z $ move t (2 ∷ []) $ fsplit t $ move t (1 ∷ []) $ drop t $ fsplit t $ move t (1 ∷ []) $ feq_l t (λ e. move t (1 ∷ 2 ∷ 0 ∷ []) $
       use3 𝓛 (later (‵ ((Arr (mem R) (length ys)).own_at zs b o))) (slice_back 𝓛 R (ν ∷ []) δ zs (length ys) b o) $ await t z $ fsplit t $ drop t $
       use1 𝓛 (‵ (row R full_share zs b o)) (whole_out 𝓛 R zs b o) $ k e)
 
-  -- It is lent as `&`, and taken back as it was.
-  pub shows_row : K → Soaks G → (R : RattleType) (b o : ℕ) (ys : List R.Denot) (vs : List Val) → SliceIs R b o ys vs
-      → ((ν : ℕ) (δ : GName) → Seq K 𝓛 (‵ (flft (ν ∷ []) full_share) ∷ ‵ (shr_own (ν ∷ []) R b o δ ys vs) ∷ ‵ (flent (ν ∷ []) ((arr_parts (shares R) (length ys)).part full_share ys b o)) ∷ Γ) G)
+  -- It is lent as `&`, of a type that can be, and taken back as it was.
+  pub shows_row : K → Soaks G → (R : RattleType) → ((ν : ℕ) → Shares 𝓛 R (ν ∷ [])) → (b o : ℕ) (ys : List R.Denot) (vs : List Val) → SliceIs R b o ys vs
+      → ((ν : ℕ) → Seq K 𝓛 (‵ (flft (ν ∷ []) full_share) ∷ ‵ (shr_own (ν ∷ []) R b o ys vs) ∷ ‵ (flent (ν ∷ []) ((arr_parts (shares R) (length ys)).part full_share ys b o)) ∷ Γ) G)
       → Seq K 𝓛 (‵ (row R full_share ys b o) ∷ Γ) G
-  shows_row t z R b o ys vs known k =
-      feq_i t ℕ (length ys) (length ys) refl $ fjoin t $ lft_new t z (λ ν. move t (1 ∷ []) $
-      use1 𝓛 (later (some (λ (δ : GName). ‵ (shr_own (ν ∷ []) R b o δ ys (slice_val (b, o) (length ys) ∷ [])) ⊛ ‵ (flent (ν ∷ []) ((arr_parts (shares R) (length ys)).part full_share ys b o))))) (lends_shr_slice 𝓛 R erased (ν ∷ []) full_share ys b o known.1) $ await t z $ pick t (λ δ. split t $
-      rewrite t 0 (λ (us : List Val). ‵ (shr_own (ν ∷ []) R b o δ ys us)) (sym known.0) refl $ move t (2 ∷ 0 ∷ 1 ∷ []) $ k ν δ))
+  shows_row t z R can b o ys vs known k =
+      feq_i t ℕ (length ys) (length ys) refl $ fjoin t $ lft_new t z (λ ν. move t (1 ∷ 0 ∷ []) $
+      use2 𝓛 (later ((‵ (shr_own (ν ∷ []) R b o ys (slice_val (b, o) (length ys) ∷ [])) ⊛ ‵ (flent (ν ∷ []) ((arr_parts (shares R) (length ys)).part full_share ys b o))) ⊛ ‵ (flft (ν ∷ []) full_share)))
+      (lends_shr_slice 𝓛 R erased (ν ∷ []) full_share ys b o known.1 (ν ∷ []) (can ν) ((ν ∷ [], full_share) ∷ []) (Incl-refl (ν ∷ [])) (Incl-refl (ν ∷ []))) $ await t z $ split t $ split t $
+      rewrite t 0 (λ (us : List Val). ‵ (shr_own (ν ∷ []) R b o ys us)) (sym known.0) refl $ move t (2 ∷ 0 ∷ 1 ∷ []) $ k ν)
 
   pub row_shown : K → Soaks G → (R : RattleType) (b o : ℕ) (ys : List R.Denot) (ν : ℕ)
       → Step K 𝓛 (‵ (row R full_share ys b o) ∷ Γ) G (‵ (flft (ν ∷ []) full_share) ∷ ‵ (flent (ν ∷ []) ((arr_parts (shares R) (length ys)).part full_share ys b o)) ∷ Γ) G
@@ -113,16 +128,16 @@ module _ {M : Type 1} {𝓤 : Ura M} {𝓛 : Logic 𝓤} {K : Type 0} {Γ : List
   -- And taken back, with the elements that the callee says it leaves.
   pub takes_back : K → Soaks G → {κ : Lft} {q : Share} (R : RattleType) (b o : ℕ) {γ : GName} (ys zs : List R.Denot) (vs : List Val) → SliceIs R b o ys vs → (ν : ℕ) (δ : GName)
       → (length zs ≡ length ys → Seq K 𝓛 (‵ (mut_own κ R b o γ zs vs) ∷ ‵ (flft κ q) ∷ Γ) G)
-      → Seq K 𝓛 (‵ (flft (ν ∷ []) full_share) ∷ lent 𝓤 κ q R b o γ ys ν δ ∷ ‵ (lastly R δ ys zs) ∷ Γ) G
+      → Seq K 𝓛 (‵ (flft (ν ∷ []) full_share) ∷ lent 𝓤 κ q R b o γ ys ν δ ∷ ‵ (lastly (ν ∷ []) R b o δ ys zs) ∷ Γ) G
   takes_back t z R b o ys zs vs known ν δ k =
       move t (1 ∷ []) $ split t $ move t (2 ∷ 0 ∷ 3 ∷ []) $ row_back t z R b o ys zs ν δ (λ e. shuts t z R b o ys zs vs known e $ k e)
 
-  -- It is lent on as `&`, and taken back as it was.
-  pub shows_on : K → Soaks G → {κ : Lft} {q : Share} (R : RattleType) (b o : ℕ) {γ : GName} (ys : List R.Denot) (vs : List Val)
-      → (SliceIs R b o ys vs → (ν : ℕ) (δ : GName) → Seq K 𝓛 (‵ (flft (ν ∷ []) full_share) ∷ ‵ (shr_own (ν ∷ []) R b o δ ys vs) ∷ shown 𝓤 κ q R b o γ ys ν ∷ Γ) G)
+  -- It is lent on as `&`, of a type that can be, and taken back as it was.
+  pub shows_on : K → Soaks G → {κ : Lft} {q : Share} (R : RattleType) → ((ν : ℕ) → Shares 𝓛 R (ν ∷ [])) → (b o : ℕ) {γ : GName} (ys : List R.Denot) (vs : List Val)
+      → (SliceIs R b o ys vs → (ν : ℕ) → Seq K 𝓛 (‵ (flft (ν ∷ []) full_share) ∷ ‵ (shr_own (ν ∷ []) R b o ys vs) ∷ shown 𝓤 κ q R b o γ ys ν ∷ Γ) G)
       → Seq K 𝓛 (‵ (mut_own κ R b o γ ys vs) ∷ ‵ (flft κ q) ∷ Γ) G
-  shows_on t z R b o ys vs k =
-      opens t z R b o ys vs (λ known. shows_row t z R b o ys vs known (λ ν δ. move t (2 ∷ 3 ∷ []) $ join t $ move t (1 ∷ 2 ∷ 0 ∷ []) $ k known ν δ))
+  shows_on t z R can b o ys vs k =
+      opens t z R b o ys vs (λ known. shows_row t z R can b o ys vs known (λ ν. move t (2 ∷ 3 ∷ []) $ join t $ move t (1 ∷ 2 ∷ 0 ∷ []) $ k known ν))
 
   pub has_shown : K → Soaks G → {κ : Lft} {q : Share} (R : RattleType) (b o : ℕ) {γ : GName} (ys : List R.Denot) (vs : List Val) → SliceIs R b o ys vs → (ν : ℕ)
       → Step K 𝓛 (‵ (mut_own κ R b o γ ys vs) ∷ ‵ (flft κ q) ∷ Γ) G (‵ (flft (ν ∷ []) full_share) ∷ shown 𝓤 κ q R b o γ ys ν ∷ Γ) G
@@ -131,13 +146,14 @@ module _ {M : Type 1} {𝓤 : Ura M} {𝓛 : Logic 𝓤} {K : Type 0} {Γ : List
 
   -- What is said of it at exit.
   pub says_last : K → {κ : Lft} (R : RattleType) (b o : ℕ) {γ : GName} (ys zs : List R.Denot) (vs : List Val) → length zs ≡ length ys
-      → Step K 𝓛 (‵ (lastly R γ ys zs) ∷ Γ) G (‵ (mut_own κ R b o γ zs vs) ∷ Γ) G
-  says_last t R b o {γ} ys zs vs e = step (λ s. fsplit t $ drop t $ fsplit t $
-      use1 𝓛 (‵ (fres γ (code R zs))) (𝓛.names.obs-res γ (code R zs)) $ use1 𝓛 (‵ (finally R γ zs)) (res-finally 𝓛 erased [] R γ zs) $ move t (1 ∷ []) $ drop t $
-      feq_i t ℕ (length zs) (length ys) e $ move t (1 ∷ 0 ∷ []) $ fjoin t $ s)
+      → Step K 𝓛 (‵ (lastly κ R b o γ ys zs) ∷ Γ) G (‵ (mut_own κ R b o γ zs vs) ∷ Γ) G
+  says_last t {κ} R b o {γ} ys zs vs e = step (λ s. fsplit t $ drop t $ fsplit t $
+      use1 𝓛 (‵ (fres γ (code R zs))) (𝓛.names.obs-res γ (code R zs)) $ use1 𝓛 (‵ (finally R γ zs)) (res-finally 𝓛 erased [] R γ zs) $
+      feq_i t ℕ (length zs) (length ys) e $ move t (1 ∷ 0 ∷ []) $ fjoin t $ move t (1 ∷ []) $
+      rewrite t 0 (λ (n : ℕ). ‵ (fbor κ (Held R n b o γ))) e refl $ move t (1 ∷ 0 ∷ []) $ fjoin t $ s)
 
   -- A slice lent as `&` may be had twice.
-  pub doubles : K → {κ : Lft} (R : RattleType) (b o : ℕ) {γ : GName} (ys : List R.Denot) (vs : List Val)
-      → Step K 𝓛 (‵ (shr_own κ R b o γ ys vs) ∷ ‵ (shr_own κ R b o γ ys vs) ∷ Γ) G (‵ (shr_own κ R b o γ ys vs) ∷ Γ) G
-  doubles t {κ} R b o {γ} ys vs = step (λ s.
-      use1 𝓛 (‵ (shr_own κ R b o γ ys vs) ⊛ ‵ (shr_own κ R b o γ ys vs)) ((shr_slice_copy 𝓛 erased κ R).twice (slice_at b o γ ys) vs) $ split t $ s)
+  pub doubles : K → (κ : Lft) (R : RattleType) → RowLaws R → (b o : ℕ) (ys : List R.Denot) (vs : List Val)
+      → Step K 𝓛 (‵ (shr_own κ R b o ys vs) ∷ ‵ (shr_own κ R b o ys vs) ∷ Γ) G (‵ (shr_own κ R b o ys vs) ∷ Γ) G
+  doubles t κ R laws b o ys vs = step (λ s.
+      use1 𝓛 (‵ (shr_own κ R b o ys vs) ⊛ ‵ (shr_own κ R b o ys vs)) ((shr_slice_copy 𝓛 erased κ R laws).twice (shr_slice_of b o ys) vs) $ split t $ s)

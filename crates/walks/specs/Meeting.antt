@@ -1,7 +1,7 @@
 -- From a walk to a function's statement. The walk begins with what the function's parameters own,
 -- their machine values written out, and ends with the tokens, the result and what is said of the
 -- last values of what was lent.
-use Rattle.std.specs.Prelude.{◌≡◌, List, [], ◌∷◌}
+use Rattle.std.specs.Prelude.{◌≡◌, [], ◌∷◌}
 use Rattle.std.proofs.Common.{sym, subst}
 use seplogic.Ra.Ura.{Ura}
 use mir.Val.{Val}

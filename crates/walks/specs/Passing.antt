@@ -2,21 +2,23 @@
 -- what the one owns is handed to the other, and what the other says at its exit is what the one
 -- says. The numbers are plain and had for nothing, and a thing lent is the same thing at one
 -- lifetime fewer; so it holds by recursion on the numbers and on the things lent.
-use Rattle.std.specs.Prelude.{◌≡◌, refl, List, [], ◌∷◌, ℕ, zero, suc, ◌<◌, ◌^◌, length}
+use Rattle.std.specs.Prelude.{◌≡◌, refl, List, [], ◌∷◌, ℕ, suc, ◌<◌, ◌^◌, length}
 use Rattle.std.proofs.Common.{ap, ◌∙◌}
 use seplogic.Ra.Ura.{Ura}
 use Rattle.std.specs.Int.{Width, w8}
 use mir.Val.{Val, vint}
 use base.Logic.{SProp, ent, sep, emp, id⊢, via, mono∗, mono_l, mono_r, snd∗, emp∗}
-use Rattle.std.specs.Borrow.{GName, Fml, u8, usize, Bor}
+use Rattle.std.specs.Borrow.{GName, Fml, u8, usize, MutBor}
+use base.Fml.{Lft, fbor}
 use types.Logic.{Logic, sem}
 use contract.Lifetimes.{Lfts}
-use types.Kit.{‵, ◌$◌, ◌∵◌, !, qed, move, fsplit, fjoin, feq_l, feq_i, done}
+use types.Kit.{‵, ◌$◌, ◌∵◌, !, qed, move, fsplit, fjoin, rewrite, feq_l, feq_i, done}
 use denote.RattleType.{RattleType, Denots, Valss, owns}
 use denote.Exit.{yes, no, left}
 use denote.Laws.{Is, Ises, Are, Spells, valss}
 use denote.Plain.{UInt, uint_Makes}
-use denote.Slice.{ShrSlice, shr_slice_vals}
+use denote.Slice.{ShrSlice, mut_slice_vals}
+use denote.Lend.{Held}
 use denote.Signature.{Slot, types_at}
 use denote.Triple.Clauses.{Lasts, lasts}
 use denote.Triple.End.{Kepts, Fins, lasts_of}
@@ -118,10 +120,10 @@ module _ {M : Type 1} {𝓤 : Ura M} (𝓛 : Logic 𝓤) where
   pub hands_over : (n j : ℕ) (ks : List Lent) (κs : Lfts (suc n)) (a : Denots (types_at (lents (suc n) (suc j) ks) κs)) (vs : Valss (types_at (lents (suc n) (suc j) ks) κs))
       → ent 𝓤 (sem 𝓛 (owns (types_at (lents (suc n) (suc j) ks) κs) a vs)) (sem 𝓛 (owns (types_at (lents n j ks) κs.1) (over n j ks κs a) (over_vals n j ks κs vs)))
   hands_over n j [] κs a vs = id⊢ 𝓤 _
-  hands_over n j (sheet R ∷ ks) κs a vs = mono_r 𝓤 (sem 𝓛 ((type_of j (lft_of n j κs.1) (sheet R)).own a.0 vs.0)) (hands_over n (suc j) ks κs a.1 vs.1)
-  hands_over n j (cell R ∷ ks) κs a vs = mono_r 𝓤 (sem 𝓛 ((type_of j (lft_of n j κs.1) (cell R)).own a.0 vs.0)) (hands_over n (suc j) ks κs a.1 vs.1)
-  hands_over n j (shown R ∷ ks) κs a vs = mono_r 𝓤 (sem 𝓛 ((type_of j (lft_of n j κs.1) (shown R)).own a.0 vs.0)) (hands_over n (suc j) ks κs a.1 vs.1)
-  hands_over n j (spent R ∷ ks) κs a vs = mono_r 𝓤 (sem 𝓛 ((type_of j (lft_of n j κs.1) (spent R)).own a.0 vs.0)) (hands_over n (suc j) ks κs a.1 vs.1)
+  hands_over n j (sheet R ∷ ks) κs a vs = mono_r 𝓤 (sem 𝓛 ((type_of j (lft_of n j κs.1) (sheet R)).own_val a.0 vs.0)) (hands_over n (suc j) ks κs a.1 vs.1)
+  hands_over n j (cell R ∷ ks) κs a vs = mono_r 𝓤 (sem 𝓛 ((type_of j (lft_of n j κs.1) (cell R)).own_val a.0 vs.0)) (hands_over n (suc j) ks κs a.1 vs.1)
+  hands_over n j (shown R ∷ ks) κs a vs = mono_r 𝓤 (sem 𝓛 ((type_of j (lft_of n j κs.1) (shown R)).own_val a.0 vs.0)) (hands_over n (suc j) ks κs a.1 vs.1)
+  hands_over n j (spent R ∷ ks) κs a vs = mono_r 𝓤 (sem 𝓛 ((type_of j (lft_of n j κs.1) (spent R)).own_val a.0 vs.0)) (hands_over n (suc j) ks κs a.1 vs.1)
 
   unders : (n j : ℕ) (ks : List Lent) (κs : Lfts (suc n)) (a : Denots (types_at (lents (suc n) (suc j) ks) κs)) (fs : Fins κs.1 (lents n j ks) (lent_kepts n j ks) (over n j ks κs a))
       → ent 𝓤 (sem 𝓛 (lasts_of κs.1 (lents n j ks) (lent_kepts n j ks) (over n j ks κs a) fs)) (sem 𝓛 (lasts_of κs (lents (suc n) (suc j) ks) (lent_kepts (suc n) (suc j) ks) a (under n j ks κs a fs)))
@@ -137,7 +139,7 @@ handed_back n (value R spelled tells) κs x = x
 handed_back n (part j R) κs x = x
 
 hands_back : {M : Type 1} {𝓤 : Ura M} (𝓛 : Logic 𝓤) (n : ℕ) (r : Result) (κs : Lfts (suc n)) (x : (result_of n in_answering r κs.1).Denot) (vs : List Val)
-    → ent 𝓤 (sem 𝓛 ((result_of n in_answering r κs.1).own x vs)) (sem 𝓛 ((result_of (suc n) in_asking r κs).own (handed_back n r κs x) vs))
+    → ent 𝓤 (sem 𝓛 ((result_of n in_answering r κs.1).own_val x vs)) (sem 𝓛 ((result_of (suc n) in_asking r κs).own_val (handed_back n r κs x) vs))
 hands_back {𝓤 = 𝓤} 𝓛 n (value R spelled tells) κs x vs = id⊢ 𝓤 _
 hands_back {𝓤 = 𝓤} 𝓛 n (part j R) κs x vs = id⊢ 𝓤 _
 
@@ -152,7 +154,7 @@ module _ (F : Form) (κs : Lfts (suc (suc (count F.lent)))) where
   IsAnswer r = Is (result_of (suc (count F.lent)) in_answering F.result κs.1) r (answer_val r ∷ [])
 
   abbrev pub answer_own : Answer → Fml
-  answer_own r = (result_of (suc (count F.lent)) in_answering F.result κs.1).own r (answer_val r ∷ [])
+  answer_own r = (result_of (suc (count F.lent)) in_answering F.result κs.1).own_val r (answer_val r ∷ [])
 
   abbrev pub Returned : Type 0
   Returned = (result_of (suc (suc (count F.lent))) in_asking F.result κs).Denot
@@ -161,7 +163,7 @@ module _ (F : Form) (κs : Lfts (suc (suc (count F.lent)))) where
   returned = handed_back (suc (count F.lent)) F.result κs
 
   abbrev pub returned_own : Answer → Fml
-  returned_own r = (result_of (suc (suc (count F.lent))) in_asking F.result κs).own (returned r) (answer_val r ∷ [])
+  returned_own r = (result_of (suc (suc (count F.lent))) in_asking F.result κs).own_val (returned r) (answer_val r ∷ [])
 
   pub returns_answer : {M : Type 1} {𝓤 : Ura M} (𝓛 : Logic 𝓤) (r : Answer) → ent 𝓤 (sem 𝓛 (answer_own r)) (sem 𝓛 (returned_own r))
   returns_answer 𝓛 r = hands_back 𝓛 (suc (count F.lent)) F.result κs r (answer_val r ∷ [])
@@ -176,14 +178,14 @@ module _ (R : RattleType) (F : Form) (κs : Lfts (suc (suc (count F.lent)))) whe
 
   module _ (a : Denots (types_at (asking_params R F) κs)) where
     -- The label sheet, and the other things lent.
-    abbrev pub labels_of_lem : Bor (List ℕ)
+    abbrev pub labels_of_lem : MutBor (List ℕ)
     labels_of_lem = (past_nums (asked_nums F.widths) (sheets_of F) κs a.1.1).0
 
     abbrev pub others_of_lem : Denots (types_at (lents (suc (suc (count F.lent))) 2 F.lent) κs)
     others_of_lem = (past_nums (asked_nums F.widths) (sheets_of F) κs a.1.1).1
 
     abbrev sheet_and_others : List ℕ → Denots (types_at (sheets_on F) κs.1)
-    sheet_and_others s = (record { ref_ptr = labels_of_lem.ptr; now = s }, over (suc (count F.lent)) 1 F.lent κs others_of_lem)
+    sheet_and_others s = (record { ref_ptr = labels_of_lem.ref_ptr; ghost_name = labels_of_lem.ghost_name; now = s }, over (suc (count F.lent)) 1 F.lent κs others_of_lem)
 
     -- What is handed to the part that answers: the number n, and s on the label sheet.
     abbrev pub answer_args : ℕ → List ℕ → Denots (types_at (answering_params F) κs.1)
@@ -213,7 +215,7 @@ module _ (R : RattleType) (F : Form) (κs : Lfts (suc (suc (count F.lent)))) whe
         list_own = (ShrSlice (named 0) κs.0 R).own_val a.0 vs.0
 
         abbrev pub labels_own : List ℕ → Fml
-        labels_own s = mut_own κs.1.0 u8 labels_of_lem.ptr.0 labels_of_lem.ptr.1 labels_of_lem.name s labels_vals
+        labels_own s = mut_own κs.1.0 u8 labels_of_lem.ref_ptr.0 labels_of_lem.ref_ptr.1 labels_of_lem.ghost_name s labels_vals
 
         -- What a call owns at its entry: the list, the label sheet, and the other things lent.
         pub call_owns : ent 𝓤 (sem 𝓛 (owns (types_at (asking_params R F) κs) a vs)) (sep 𝓤 (sem 𝓛 list_own) (sep 𝓤 (sem 𝓛 (labels_own labels_of_lem.now)) (sem 𝓛 others_own)))
@@ -233,9 +235,10 @@ module _ (R : RattleType) (F : Form) (κs : Lfts (suc (suc (count F.lent)))) whe
             after_n : SProp 𝓤
             after_n = sem 𝓛 (owns (types_at (nums (told_nums F.widths) (sheets_on F)) κs.1) (answer_args n s).1 (answer_vals n).1)
 
-        retold : (γ : GName) (before between after : List ℕ) → length between ≡ length before → ent 𝓤 (sem 𝓛 (lastly u8 γ between after)) (sem 𝓛 (lastly u8 γ before after))
-        retold γ before between after e =
-            qed 𝓛 (‵ (lastly u8 γ between after) ∷ []) ∵ fsplit ! $ move ! (1 ∷ []) $ feq_l ! (λ k. feq_i ! ℕ (length after) (length before) (k ∙ e) $ move ! (1 ∷ 0 ∷ []) $ fjoin ! $ done !)
+        retold : (κ : Lft) (b o : ℕ) (γ : GName) (before between after : List ℕ) → length between ≡ length before → ent 𝓤 (sem 𝓛 (lastly κ u8 b o γ between after)) (sem 𝓛 (lastly κ u8 b o γ before after))
+        retold κ b o γ before between after e =
+            qed 𝓛 (‵ (lastly κ u8 b o γ between after) ∷ []) ∵ fsplit ! $ fsplit ! $ move ! (1 ∷ []) $ feq_l ! (λ k. feq_i ! ℕ (length after) (length before) (k ∙ e) $ move ! (1 ∷ 0 ∷ []) $ fjoin ! $ move ! (1 ∷ []) $
+            rewrite ! 0 (λ (n : ℕ). ‵ (fbor κ (Held u8 n b o γ))) e refl $ move ! (1 ∷ 0 ∷ []) $ fjoin ! $ done !)
 
         -- And what is said of it at exit is what the call says, where the label sheet is as long.
         pub call_says : (n : ℕ) (s : List ℕ) → length s ≡ length labels_of_lem.now → (fs : Lasts (answering F) κs.1 (answer_args n s))
@@ -246,7 +249,7 @@ module _ (R : RattleType) (F : Form) (κs : Lfts (suc (suc (count F.lent)))) whe
             let gs = strip (sheets_of F) κs (sheets_on F) κs.1 kept_on (told_nums F.widths) (told F.widths (sheets_of F) κs a.1.1) b fs.1 in
             via 𝓤 _ (snd∗ 𝓤 (emp 𝓤) _)
             (via 𝓤 _ (strips 𝓛 (sheets_of F) κs (sheets_on F) κs.1 kept_on (told_nums F.widths) (told F.widths (sheets_of F) κs a.1.1) b fs.1)
-            (via 𝓤 _ (mono∗ 𝓤 (retold labels_of_lem.ghost_name labels_of_lem.now s gs.0 e) (unders 𝓛 (suc (count F.lent)) 1 F.lent κs others_of_lem gs.1))
+            (via 𝓤 _ (mono∗ 𝓤 (retold κs.1.0 labels_of_lem.ref_ptr.0 labels_of_lem.ref_ptr.1 labels_of_lem.ghost_name labels_of_lem.now s gs.0 e) (unders 𝓛 (suc (count F.lent)) 1 F.lent κs others_of_lem gs.1))
             (via 𝓤 _ (wraps 𝓛 (asked_nums F.widths) (sheets_of F) κs kept_of a.1.1 (gs.0, under (suc (count F.lent)) 1 F.lent κs others_of_lem gs.1))
             (via 𝓤 _ (emp∗ 𝓤 _) (emp∗ 𝓤 _)))))
 
@@ -258,7 +261,7 @@ spelled_past (w ∷ ws) ss κs sp a = spelled_past ws ss κs sp a.1
 module _ (R : RattleType) (F : Form) (κs : Lfts (suc (suc (count F.lent)))) (a : Denots (types_at (asking_params R F) κs)) where
   -- The label sheet's machine value, and the things known of the arguments: the label sheet has
   -- room, and so have the others.
-  pub labels_spelled : labels_vals R F κs a (valss (types_at (asking_params R F) κs) (asking_spells R F κs) a) ≡ shr_slice_vals (labels_of_lem R F κs a)
+  pub labels_spelled : labels_vals R F κs a (valss (types_at (asking_params R F) κs) (asking_spells R F κs) a) ≡ mut_slice_vals (labels_of_lem R F κs a)
   labels_spelled = ap (λ (vs : Valss (types_at (sheets_of F) κs)). vs.0) (spelled_past (asked_nums F.widths) (sheets_of F) κs _ a.1.1)
 
   pub labels_room : (vs : Valss (types_at (asking_params R F) κs)) → Are (types_at (asking_params R F) κs) (Ises (types_at (asking_params R F) κs)) a vs → length (labels_of_lem R F κs a).now < 2 ^ 64

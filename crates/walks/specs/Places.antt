@@ -1,18 +1,18 @@
 -- The locals of a function that is walked, by their numbers, whatever stands before them in the
 -- context: a number is a place among the entries, so each step on a local is a step on that entry.
 -- Operands are read off what is known of the locals, by computation.
-use Rattle.std.specs.Prelude.{◌≡◌, refl, Bool, true, false, List, [], ◌∷◌, ◌++◌, ℕ, zero, suc, ◌<◌, ◌^◌, T, ltb, get_or}
+use Rattle.std.specs.Prelude.{◌≡◌, refl, Bool, true, false, List, [], ◌∷◌, ◌++◌, ℕ, zero, suc, ◌^◌, T, ltb, get_or}
 use Rattle.std.proofs.Common.{sym, ap, subst, ◌∙◌, arith}
 use Rattle.std.proofs.Math.Option.{Option, none, some}
 use seplogic.Ra.Ura.{Ura}
-use seplogic.Ra.TreeShare.{full_share}
-use mir.Syntax.{Ty, w64, field, deref, place, Opd as Operand, copy, int, int_neg, int_big, float, opd_true, opd_false, opd_unit, ptr_const, rv_opd, addr_of, aggregate, Body, seq, assign}
+use base.Fraction.{full_share}
+use mir.Syntax.{Ty, w64, field, deref, place, Opd as Operand, copy, int, int_neg, int_big, float, opd_true, opd_false, opd_unit, ptr_const, size_of, align_of, num_of, fn_addr, vtable, rv_opd, addr_of, aggregate, Body, seq, assign}
 use mir.Val.{Val, vptr, vint, vbool, vunit, has_ty, WT, bits}
 use base.Fml.{fat}
 use prog.Wp.{Env, Calls, Loops, spot_of, no_local}
 use types.Logic.{Logic}
-use types.Kit.{Item, ‵, nth, put, Goal, Post, Seq, Step, step, runs, lands, ◌$◌}
-use types.Run.{Opd, Opds, stop, hop, from, addr, look, init, land, lit, true_lit, false_lit, no_more, and_then, of_opd, assigns}
+use types.Kit.{Item, ‵, nth, put, Goal, Post, Step, runs, lands}
+use types.Run.{Opds, stop, hop, from, addr, look, init, land, lit, true_lit, false_lit, no_more, and_then, of_opd, assigns}
 use denote.Slice.{slice_ty, slice_val}
 use Rattle.walks.specs.Frames.{Known, first, rest, cell, cells, locals}
 use Rattle.walks.specs.Steps.{var, field_of_lem, relends, sets}
@@ -50,9 +50,9 @@ abbrev pub slice_of : ℕ → ℕ → ℕ → Val
 slice_of b o n = slice_val (b, o) n
 
 module _ {M : Type 1} {𝓤 : Ura M} (𝓛 : Logic 𝓤) where
-  -- Local i is there, and u is what is known of it.
   open 𝓛 use {H}
 
+  -- Local i is there, and u is what is known of it.
   abbrev pub Has : Env 𝓤 H → Known → ℕ → Option Val → Type 0
   Has [] vs i u = ⊥
   Has (e ∷ E) vs zero u = first vs ≡ u
@@ -98,6 +98,11 @@ module _ {M : Type 1} {𝓤 : Ura M} (𝓛 : Logic 𝓤) where
   readable E vs (opd_false ∷ xs) = readable E vs xs
   readable E vs (opd_unit ∷ xs) = false
   readable E vs (ptr_const k ∷ xs) = false
+  readable E vs (size_of τ ∷ xs) = false
+  readable E vs (align_of τ ∷ xs) = false
+  readable E vs (num_of w τ ∷ xs) = false
+  readable E vs (fn_addr f s ∷ xs) = false
+  readable E vs (vtable τ ss ∷ xs) = false
 
   abbrev pub values : Env 𝓤 H → Known → List Operand → List Val
   values E vs [] = []
@@ -110,39 +115,43 @@ module _ {M : Type 1} {𝓤 : Ura M} (𝓛 : Logic 𝓤) where
   values E vs (opd_false ∷ xs) = vbool false ∷ values E vs xs
   values E vs (opd_unit ∷ xs) = vunit ∷ values E vs xs
   values E vs (ptr_const k ∷ xs) = vunit ∷ values E vs xs
+  values E vs (size_of τ ∷ xs) = vunit ∷ values E vs xs
+  values E vs (align_of τ ∷ xs) = vunit ∷ values E vs xs
+  values E vs (num_of w τ ∷ xs) = vunit ∷ values E vs xs
+  values E vs (fn_addr f s ∷ xs) = vunit ∷ values E vs xs
+  values E vs (vtable τ ss ∷ xs) = vunit ∷ values E vs xs
 
-  module _ where
-    -- What stands before, and then local i.
-    abbrev past : List (Item 𝓤) → ℕ → ℕ
-    past [] i = i
-    past (d ∷ Δ) i = suc (past Δ i)
+  -- What stands before, and then local i.
+  abbrev past : List (Item 𝓤) → ℕ → ℕ
+  past [] i = i
+  past (d ∷ Δ) i = suc (past Δ i)
 
-    nth_past : (Δ Γ : List (Item 𝓤)) (i : ℕ) → nth 𝓛 (past Δ i) (Δ ++ Γ) ≡ nth 𝓛 i Γ
-    nth_past [] Γ i = refl
-    nth_past (d ∷ Δ) Γ i = nth_past Δ Γ i
+  nth_past : (Δ Γ : List (Item 𝓤)) (i : ℕ) → nth 𝓛 (past Δ i) (Δ ++ Γ) ≡ nth 𝓛 i Γ
+  nth_past [] Γ i = refl
+  nth_past (d ∷ Δ) Γ i = nth_past Δ Γ i
 
-    put_past : (Δ Γ : List (Item 𝓤)) (i : ℕ) (k : Item 𝓤) → put 𝓛 (past Δ i) k (Δ ++ Γ) ≡ Δ ++ put 𝓛 i k Γ
-    put_past [] Γ i k = refl
-    put_past (d ∷ Δ) Γ i k = ap (λ (Θ : List (Item 𝓤)). d ∷ Θ) (put_past Δ Γ i k)
+  put_past : (Δ Γ : List (Item 𝓤)) (i : ℕ) (k : Item 𝓤) → put 𝓛 (past Δ i) k (Δ ++ Γ) ≡ Δ ++ put 𝓛 i k Γ
+  put_past [] Γ i k = refl
+  put_past (d ∷ Δ) Γ i k = ap (λ (Θ : List (Item 𝓤)). d ∷ Θ) (put_past Δ Γ i k)
 
-    nth_cell : (E : Env 𝓤 H) (vs : Known) (i : ℕ) (u : Option Val) (Γ : List (Item 𝓤)) → Has E vs i u → nth 𝓛 i (cells 𝓛 E vs Γ) ≡ cell 𝓛 (get_or E i (no_local 𝓤 H)) u
-    nth_cell [] vs i u Γ h = absurd h
-    nth_cell (e ∷ E) vs zero u Γ h = ap (cell 𝓛 e) h
-    nth_cell (e ∷ E) vs (suc i) u Γ h = nth_cell E (rest vs) i u Γ h
+  nth_cell : (E : Env 𝓤 H) (vs : Known) (i : ℕ) (u : Option Val) (Γ : List (Item 𝓤)) → Has E vs i u → nth 𝓛 i (cells 𝓛 E vs Γ) ≡ cell 𝓛 (get_or E i (no_local 𝓤 H)) u
+  nth_cell [] vs i u Γ h = absurd h
+  nth_cell (e ∷ E) vs zero u Γ h = ap (cell 𝓛 e) h
+  nth_cell (e ∷ E) vs (suc i) u Γ h = nth_cell E (rest vs) i u Γ h
 
-    put_cell : (E : Env 𝓤 H) (vs : Known) (i : ℕ) (u : Option Val) (v : Val) (Γ : List (Item 𝓤)) → Has E vs i u
-        → put 𝓛 i (cell 𝓛 (get_or E i (no_local 𝓤 H)) (some v)) (cells 𝓛 E vs Γ) ≡ cells 𝓛 E (keeps i v vs) Γ
-    put_cell [] vs i u v Γ h = absurd h
-    put_cell (e ∷ E) vs zero u v Γ h = refl
-    put_cell (e ∷ E) vs (suc i) u v Γ h = ap (λ (Θ : List (Item 𝓤)). cell 𝓛 e (first vs) ∷ Θ) (put_cell E (rest vs) i u v Γ h)
+  put_cell : (E : Env 𝓤 H) (vs : Known) (i : ℕ) (u : Option Val) (v : Val) (Γ : List (Item 𝓤)) → Has E vs i u
+      → put 𝓛 i (cell 𝓛 (get_or E i (no_local 𝓤 H)) (some v)) (cells 𝓛 E vs Γ) ≡ cells 𝓛 E (keeps i v vs) Γ
+  put_cell [] vs i u v Γ h = absurd h
+  put_cell (e ∷ E) vs zero u v Γ h = refl
+  put_cell (e ∷ E) vs (suc i) u v Γ h = ap (λ (Θ : List (Item 𝓤)). cell 𝓛 e (first vs) ∷ Θ) (put_cell E (rest vs) i u v Γ h)
 
-    pub nth_local : (Δ : List (Item 𝓤)) (E : Env 𝓤 H) (vs : Known) (i : ℕ) (u : Option Val) (Γ : List (Item 𝓤)) → Has E vs i u
-        → nth 𝓛 (past Δ i) (Δ ++ locals 𝓛 E vs Γ) ≡ cell 𝓛 (get_or E i (no_local 𝓤 H)) u
-    nth_local Δ E vs i u Γ h = nth_past Δ (locals 𝓛 E vs Γ) i ∙ nth_cell E vs i u _ h
+  pub nth_local : (Δ : List (Item 𝓤)) (E : Env 𝓤 H) (vs : Known) (i : ℕ) (u : Option Val) (Γ : List (Item 𝓤)) → Has E vs i u
+      → nth 𝓛 (past Δ i) (Δ ++ locals 𝓛 E vs Γ) ≡ cell 𝓛 (get_or E i (no_local 𝓤 H)) u
+  nth_local Δ E vs i u Γ h = nth_past Δ (locals 𝓛 E vs Γ) i ∙ nth_cell E vs i u _ h
 
-    put_local : (Δ : List (Item 𝓤)) (E : Env 𝓤 H) (vs : Known) (i : ℕ) (u : Option Val) (v : Val) (Γ : List (Item 𝓤)) → Has E vs i u
-        → put 𝓛 (past Δ i) (cell 𝓛 (get_or E i (no_local 𝓤 H)) (some v)) (Δ ++ locals 𝓛 E vs Γ) ≡ Δ ++ locals 𝓛 E (keeps i v vs) Γ
-    put_local Δ E vs i u v Γ h = put_past Δ (locals 𝓛 E vs Γ) i _ ∙ ap (λ (Θ : List (Item 𝓤)). Δ ++ Θ) (put_cell E vs i u v _ h)
+  put_local : (Δ : List (Item 𝓤)) (E : Env 𝓤 H) (vs : Known) (i : ℕ) (u : Option Val) (v : Val) (Γ : List (Item 𝓤)) → Has E vs i u
+      → put 𝓛 (past Δ i) (cell 𝓛 (get_or E i (no_local 𝓤 H)) (some v)) (Δ ++ locals 𝓛 E vs Γ) ≡ Δ ++ locals 𝓛 E (keeps i v vs) Γ
+  put_local Δ E vs i u v Γ h = put_past Δ (locals 𝓛 E vs Γ) i _ ∙ ap (λ (Θ : List (Item 𝓤)). Δ ++ Θ) (put_cell E vs i u v _ h)
 
 module _ {M : Type 1} {𝓤 : Ura M} {𝓛 : Logic 𝓤} {K : Type 0} where
   open 𝓛 use {H}
@@ -162,6 +171,11 @@ module _ {M : Type 1} {𝓤 : Ura M} {𝓛 : Logic 𝓤} {K : Type 0} where
     operands t vs (opd_false ∷ xs) h = and_then t (false_lit t) (operands t vs xs h)
     operands t vs (opd_unit ∷ xs) h = absurd h
     operands t vs (ptr_const k ∷ xs) h = absurd h
+    operands t vs (size_of τ ∷ xs) h = absurd h
+    operands t vs (align_of τ ∷ xs) h = absurd h
+    operands t vs (num_of w τ ∷ xs) h = absurd h
+    operands t vs (fn_addr f s ∷ xs) h = absurd h
+    operands t vs (vtable τ ss ∷ xs) h = absurd h
 
     module _ {C : Calls 𝓤 H} {Λ : Loops 𝓤 H} {z : Post 𝓤 H} where
       -- A call's result is stored in a local that has no value yet.

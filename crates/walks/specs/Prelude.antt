@@ -5,16 +5,17 @@ pub use Rattle.std.proofs.Common.{zero-le, T_not, eqb→eq, leb→le, lit<, ltb�
 pub use Rattle.walks.specs.Calls.{called, pays, pays_lent}
 pub use Rattle.walks.specs.Frames.{Blocks, enters, env_of, leaves, locals, Known, Passed, these, rest}
 pub use Rattle.walks.specs.Handing.{ends_owning, ends_with, hands, hears, takes}
-pub use Rattle.walks.specs.Lending.{SliceIs, doubles, has_shown, lastly, lends, lends_row, mut_own, opened, opens, row_back, row_shown, says_last, shows_on, shows_row, shr_own, shuts, slice_at, takes_back, lent}
+pub use Rattle.walks.specs.Lending.{SliceIs, copies_show, doubles, has_shown, lastly, lends, lends_row, mut_own, opened, opens, row_back, row_shown, says_last, shows_on, shows_row, shr_own, shr_slice_of, shuts, slice_at, takes_back, lent}
 pub use Rattle.walks.specs.Meeting.{Promised, asked_nothing, ends, meets}
-pub use Rattle.walks.specs.Slots.{marker_size, IsMarker, blank_fits, id_fits, lent_list, looks_into, mach, marker_typed, puts_slot, reads_lent, reads_slot}
+pub use Rattle.walks.specs.Slots.{marker_size, IsMarker, blank_fits, id_fits, lent_list, looks_into, mach, markers_double, markers_show, marker_typed, puts_slot, reads_lent, reads_slot}
 pub use Rattle.walks.specs.Steps.{field_of_lem, relends, resets, sets, var}
 pub use Rattle.walks.specs.Turns.{Rest, Round, Turn, breaks, gives, gives_up, looped, tested, turns, unless}
 pub use base.Fml.{Fml, GName, Lft, Share, flft, ftrue}
 pub use base.Logic.{SProp, emp, ent, id⊢}
 pub use contract.Monad.{Fun, fact, fact_i}
-unfoldable pub use contract.Running.{given_of, tables, tables_of}
-pub use contract.Running.{Running, GhostRules}
+unfoldable pub use contract.Running.{tables, tables_of}
+pub use contract.Running.{Running}
+pub use types.Logic.{Logic, sem}
 pub use Rattle.std.specs.Borrow.{bool, u16, u32, u8, usize}
 pub use denote.Index.{row}
 pub use denote.Laws.{Is, Ises, Are, Typed, valss}
@@ -30,17 +31,17 @@ pub use denote.Triple.Statement.{Triple}
 pub use denote.Triple.Table.{cited, entered}
 pub use denote.Triple.Walked.{needs}
 pub use ghost.Atoms.{Atoms}
-pub use seplogic.Ra.TreeShare.{full_share}
+pub use base.Fraction.{full_share}
 pub use seplogic.Ra.Ura.{Ura}
 pub use Rattle.std.proofs.Math.Dec.{eqb_refl, nleb→lt}
 pub use Rattle.std.proofs.Math.Option.{none, some, Option}
-pub use mir.Syntax.{named, w16, w64, w8, Name, Fn, place, copy, opd_true, Body, seq, call, return, Width, Place}
+pub use mir.Syntax.{named, w16, w64, w8, Callee, Fn, place, copy, opd_true, Body, seq, call, return, Width, Place}
 pub use mir.Val.{Val, vbool, vint, vptr, vunit, has_ty, WT}
 pub use prog.Memory.{Memory}
 pub use prog.Routine.{Routine}
 pub use prog.Wp.{Env, Heap, Tables, WpFn, ty_of, spot_of, Calls, Loops}
 pub use sound.WpLaws.{fm_of, FmC}
-pub use types.Kit.{ !, Given, Item, Sq, ◌$◌, ◌∵◌, ◌⊛◌, at_ret, by, done, fjoin, frame, fsplit, join, keep, move, qed, raw, rewrite, runs, split, suffices, use0, use1, use2, ‵, ⋆, Go, Post, Seq, Goal, Step, step, lands, feq_l, feq_i}
+pub use types.Kit.{ !, Item, Sq, ◌$◌, ◌∵◌, ◌⊛◌, at_ret, by, done, fjoin, frame, fsplit, join, keep, move, qed, raw, rewrite, runs, split, suffices, use0, use1, use2, ‵, ⋆, Go, Post, Seq, Goal, Step, step, lands, feq_l, feq_i}
 pub use types.Part.{agg, look_in, sub, whole}
 pub use types.Run.{addr, and_then, assigns, assigns_last, bin, branches, false_lit, fld, forget, from, hop, init, land, lit, load, look, look_raw, no_more, of_opd, returns, stop, store, store_raw, true_lit, un, unit_lit, Opds}
 pub use prog.Model.{Model}

@@ -3,7 +3,7 @@
 use Rattle.std.specs.Prelude.{◌≡◌, refl, List, [], ◌∷◌, ◌++◌, ℕ, zero, T}
 use Rattle.std.proofs.Math.Option.{none, some}
 use seplogic.Ra.Ura.{Ura}
-use mir.Syntax.{Ty, Name, place, Opd as Operand, seq, call, return}
+use mir.Syntax.{Ty, Callee, place, Opd as Operand, seq, call, return}
 use mir.Val.{Val, has_ty, WT}
 use base.Logic.{SProp, ent, emp, via, snd∗}
 use prog.Wp.{Env, Calls, Loops}
@@ -24,7 +24,7 @@ use Rattle.walks.specs.Handing.{Marks, had, Made, hands}
 
 -- j is what is kept beside the locals.
 module _ {M : Type 1} {𝓤 : Ura M} {K : Type 0} (𝓛 : Logic 𝓤) {E : Env 𝓤 𝓛.H} {e : Ty × ℕ} {C : Calls 𝓤 𝓛.H} {Λ : Loops 𝓤 𝓛.H} {Kf : Val → SProp 𝓤}
-    {f : Name} {xs : List Operand} (t : K) (fm : FmC 𝓤 𝓛.H 𝓛.laws C) (T' : Ended) (c : Clauses 𝓤 T') (known : Triple 𝓤 (C f) (Promised 𝓛 T' c)) (y : (Promised 𝓛 T' c).Ghost)
+    {f : Callee} {xs : List Operand} (t : K) (fm : FmC 𝓤 𝓛.H 𝓛.laws C) (T' : Ended) (c : Clauses 𝓤 T') (known : Triple 𝓤 (C f) (Promised 𝓛 T' c)) (y : (Promised 𝓛 T' c).Ghost)
     (ms : Marks) (tk : Item 𝓤) (is-alive : mean 𝓛 tk ≡ alive 𝓛 T'.signature y.0.0 y.0.1) (made : Made 𝓛 ms (types_at T'.signature.params y.0.0) y.0.3 y.0.4)
     (asked : ent 𝓤 (emp 𝓤) ((c y.0.0 y.0.3).requires y.1))
     (spelled : Res T'.signature y.0.0 → Val) (tells : Tells (type_at T'.signature.result y.0.0) (Is (type_at T'.signature.result y.0.0)) (λ r. spelled r ∷ []))

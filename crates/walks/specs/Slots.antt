@@ -1,22 +1,25 @@
 -- One slot of a lent list of markers, in a walk: it is read, or another marker is put in it. The
 -- list is a slice, so slot i lies a marker's size further on for each slot before it. The rules
 -- take the step that reads or stores, which sees the slot's cell at the head of the context.
-use Rattle.std.specs.Prelude.{◌≡◌, refl, List, [], ◌∷◌, ℕ, ◌+◌, ◌*◌, ◌<◌, ◌≤◌, ◌^◌, T, length, get_or, set}
+use Rattle.std.specs.Prelude.{refl, List, [], ◌∷◌, ℕ, ◌+◌, ◌*◌, ◌<◌, ◌≤◌, ◌^◌, T, length, get_or, set}
 use Rattle.std.proofs.Common.{sym, arith, lit<}
 use seplogic.Ra.Ura.{Ura}
-use seplogic.Ra.TreeShare.{full_share}
+use base.Fraction.{full_share}
 use mir.Syntax.{erased}
 use mir.Val.{Val, has_ty, WT}
-use base.Fml.{Lft, GName, Share, Fml, flft, fobor, fshr_bor}
+use base.Fml.{Lft, Share, Fml, flft, fhide}
 use types.Logic.{Logic}
 use types.Kit.{Item, ‵, ◌⊛◌, Goal, Soaks, Seq, Step, step, ◌$◌, move, drop, split, fsplit, join, rewrite}
-use types.Share.{arr_parts}
-use denote.Laws.{Is, Tells, Makes, shows, Copy}
-use denote.Memory.{cell_at, mem, shares, pointee}
+use denote.Laws.{Is, shows}
+use denote.RattleType.{RowLaws}
+use denote.Shares.{Shares}
+use denote.Opens.{Shut}
+use denote.Memory.{cell_at, shares}
 use denote.Index.{row, place, place_is, others, elem_out, elem_back, elem_put, looks_slice, shuts_slice}
-use denote.Slice.{ShrSlice}
+use denote.Slice.{ShrSlice, elements_shared}
 use denote.Steps.{owned}
 use denote.Struct.Laws as LL
+use Rattle.walks.specs.Lending.{copies_show}
 use Rattle.field.specs.declared.Marker.{Marker}
 use Rattle.field.specs.Map.{tallest}
 use Rattle.field.specs.Limits.{tallest_is}
@@ -47,6 +50,13 @@ height_fits m is = omega (arith, tallest_is, (LL.owed T.the_type T'.the_laws m (
 pub blank_fits : IsMarker blank
 blank_fits = LL.owes T.the_type T'.the_laws blank ((refl, lit< tt), ((refl, lit< tt), ((refl, lit< tt), ((refl, lit< tt), tt))))
 
+-- A list of markers can be lent as `&`, and is then had twice.
+pub markers_show : {M : Type 1} {𝓤 : Ura M} (𝓛 : Logic 𝓤) (ν : ℕ) → Shares 𝓛 T.the_row (ν ∷ [])
+markers_show 𝓛 = copies_show 𝓛 T.the_row (LL.copied T.the_type T'.the_copy 𝓛)
+
+pub markers_double : RowLaws T.the_row
+markers_double m = T'.the_field_copy.shr_laws (T.the_type.to m)
+
 abbrev slot : List Marker → ℕ → Marker
 slot ys i = get_or ys i blank
 
@@ -58,19 +68,19 @@ cell_of q m b o i = cell_at q (T.the_row).mir (mach m ∷ []) b (i * marker_size
 abbrev pub others_of : Share → List Marker → ℕ → ℕ → ℕ → Fml
 others_of q ys b o i = others (shares T.the_row) q ys i b o
 
--- What a `&κ [Marker]` holds: a share of each slot, as much as a token of κ gives.
+-- What a `&κ [Marker]` holds: what a `&` to each slot does, as much as a token of κ gives.
 abbrev pub lent_list : Lft → List Marker → ℕ → ℕ → Fml
-lent_list κ ys b o = fshr_bor κ (λ s. (arr_parts (shares T.the_row) (length ys)).part s ys b o)
+lent_list κ ys b o = fhide (elements_shared T.the_row ys b o κ)
 
 -- What stands in place of the token while the list is looked into.
-abbrev looked_at : Lft → Share → Share → List Marker → ℕ → ℕ → Fml
-looked_at κ q s ys b o = fobor κ q ((arr_parts (shares T.the_row) (length ys)).part s ys b o)
+abbrev looked_at : {M : Type 1} {𝓤 : Ura M} (𝓛 : Logic 𝓤) → Lft → Share → Share → List Marker → ℕ → ℕ → Item 𝓤
+looked_at 𝓛 κ q s ys b o = Shut 𝓛 κ q (row T.the_row s ys b o)
 
 -- A list passed as `&` is looked into from then on.
-pub looks_into : {M : Type 1} {𝓤 : Ura M} {𝓛 : Logic 𝓤} {K : Type 0} {Γ : List (Item 𝓤)} {G : Goal 𝓤 𝓛.H} → K → {κ : Lft}
-    (b o : ℕ) {γ : GName} (ys : List Marker) {vs : List Val}
+pub looks_into : {M : Type 1} {𝓤 : Ura M} {𝓛 : Logic 𝓤} {K : Type 0} {Γ : List (Item 𝓤)} {G : Goal 𝓤 𝓛.H} → K → (κ : Lft)
+    (b o : ℕ) (ys : List Marker) {vs : List Val}
     → Step K 𝓛 (‵ (lent_list κ ys b o) ∷ Γ) G (‵ ((ShrSlice erased κ T.the_row).own_val (record { ref_ptr = (b, o); now = ys }) vs) ∷ Γ) G
-looks_into t b o ys = step (λ s. fsplit t $ drop t $ fsplit t $ drop t $ s)
+looks_into t κ b o ys = step (λ s. fsplit t $ drop t $ s)
 
 module _ {M : Type 1} {𝓤 : Ura M} {𝓛 : Logic 𝓤} {K : Type 0} {Γ : List (Item 𝓤)} {G : Goal 𝓤 𝓛.H} {j : Item 𝓤} where
   -- Slot i of a row is seen; what else is kept goes with j, the entry after the row.
@@ -102,11 +112,11 @@ module _ {M : Type 1} {𝓤 : Ura M} {𝓛 : Logic 𝓤} {K : Type 0} {Γ Γ' : 
   -- A step reads slot i of a list lent as `&`.
   pub reads_lent : K → Soaks G → Soaks G' → {κ : Lft} {q : Share} (ys : List Marker) (b o i : ℕ) → i < length ys
       → ((s : Share) → IsMarker (slot ys i) → Step K 𝓛
-      (‵ (cell_of s (slot ys i) b o i) ∷ (‵ (others_of s ys b o i) ⊛ ‵ (looked_at κ q s ys b o) ⊛ ‵ (lent_list κ ys b o)) ∷ Γ') G'
-      (‵ (cell_of s (slot ys i) b o i) ∷ (‵ (others_of s ys b o i) ⊛ ‵ (looked_at κ q s ys b o) ⊛ ‵ (lent_list κ ys b o)) ∷ Γ) G)
+      (‵ (cell_of s (slot ys i) b o i) ∷ (‵ (others_of s ys b o i) ⊛ looked_at 𝓛 κ q s ys b o ⊛ ‵ (lent_list κ ys b o)) ∷ Γ') G'
+      (‵ (cell_of s (slot ys i) b o i) ∷ (‵ (others_of s ys b o i) ⊛ looked_at 𝓛 κ q s ys b o ⊛ ‵ (lent_list κ ys b o)) ∷ Γ) G)
       → (IsMarker (slot ys i) → Seq K 𝓛 (‵ (lent_list κ ys b o) ∷ ‵ (flft κ q) ∷ Γ') G') → Seq K 𝓛 (‵ (lent_list κ ys b o) ∷ ‵ (flft κ q) ∷ Γ) G
   reads_lent t z z' ys b o i l k s =
-      looks_slice t z T.the_row (Is T.the_row) (shows 𝓛 T.the_row) (LL.vals T.the_type T'.the_laws) (LL.tells T.the_type T'.the_laws) ((LL.copy T.the_type T'.the_copy) 𝓛) ys b o (λ r.
+      looks_slice t z T.the_row (LL.copied T.the_type T'.the_copy 𝓛) ys b o (λ r.
       move t (1 ∷ 2 ∷ []) $ join t $ move t (1 ∷ []) $ seen t r ys b o i l (λ g. k r g $ shut t r ys b o i l g $ move t (1 ∷ []) $ split t $ move t (2 ∷ 0 ∷ []) $
       shuts_slice t z' T.the_row r ys b o $ move t (1 ∷ 0 ∷ []) $ s g))
 

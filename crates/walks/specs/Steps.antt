@@ -1,25 +1,25 @@
 -- Single statements of a walk, in short. A local is named by its entry in the context, and its
 -- fields by their numbers.
-use Rattle.std.specs.Prelude.{◌≡◌, refl, List, [], ◌∷◌, ℕ, zero, ◌+◌, T}
+use Rattle.std.specs.Prelude.{◌≡◌, List, [], ◌∷◌, ℕ, zero, ◌+◌, T}
 use Rattle.std.proofs.Common.{sym, subst}
 use Rattle.std.proofs.Math.Option.{some}
 use seplogic.Ra.Ura.{Ura}
-use seplogic.Ra.TreeShare.{full_share}
-use mir.Syntax.{Sym, Ty, Tys, ty_struct, ty_ref, ty_int, w64, Lifetime, mut, field, deref, Place, place, copy, Rv as RValue, addr_of, aggregate, Body, seq, assign}
+use base.Fraction.{full_share}
+use mir.Syntax.{Sym, Ty, Tys, ty_struct, field, deref, place, copy, Rv as RValue, addr_of, aggregate, Body, seq, assign}
 use mir.Fields.{get_v, set_v}
-use mir.Val.{Val, Vals, vstruct, vcons, vnil, vptr, vint, has_ty, WT}
+use mir.Val.{Val, Vals, vstruct, vcons, vnil, vptr, has_ty, WT}
 use base.Fml.{Share, fat, froom}
-use prog.Memory.{field_at, field_of}
+use prog.Memory.{field_at}
 use prog.Wp.{Env, Calls, Loops, Spot, spot_of}
 use types.Logic.{Logic}
-use types.Kit.{Item, ‵, nth, put, Post, Seq, Step, step, runs, ◌$◌}
+use types.Kit.{Item, ‵, nth, put, Post, Step, step, runs, ◌$◌}
 use types.Run.{Opd, Rv, Walks, look, init, store, stop, hop, fld, from, load, addr, and_then, no_more, assigns}
 use types.Part.{Part, whole, sub, look_in, agg}
 
 module _ {M : Type 1} {𝓤 : Ura M} {𝓛 : Logic 𝓤} {K : Type 0} {Γ : List (Item 𝓤)} {E : Env 𝓤 𝓛.H} where
-  -- A local's value, at entry n.
   open 𝓛 use {H}
 
+  -- A local's value, at entry n.
   pub var : K → (n : ℕ) {i : ℕ} {q : Share} {v : Val} → nth 𝓛 n Γ ≡ ‵ (fat q (spot_of 𝓤 H E i).0 (spot_of 𝓤 H E i).1 zero v) → Opd K 𝓛 Γ E (copy (place i [])) v
   var t n e = load t (from t (stop t)) (look t n e)
 
@@ -41,10 +41,10 @@ module _ {M : Type 1} {𝓤 : Ura M} {𝓛 : Logic 𝓤} {K : Type 0} {Γ : List
       (look_in t n (subst (λ (j : Item 𝓤). Part K 𝓛 j q τ b (zero + d) (get_v vs k) (λ u. ‵ (fat q (ty_struct ν τs) b zero (vstruct (set_v vs k u))))) (sym e) (sub t k f (whole t))))
 
 module _ {M : Type 1} {𝓤 : Ura M} {𝓛 : Logic 𝓤} {K : Type 0} {Γ : List (Item 𝓤)} {E : Env 𝓤 𝓛.H} {C : Calls 𝓤 𝓛.H} {Λ : Loops 𝓤 𝓛.H} {z : Post 𝓤 𝓛.H} where
-  -- A slice that the local at entry n holds is lent on: a reference to its first element, at entry
-  -- i, and with its length a slice again, at entry j.
   open 𝓛 use {H}
 
+  -- A slice that the local at entry n holds is lent on: a reference to its first element, at entry
+  -- i, and with its length a slice again, at entry j.
   pub relends : K → (n i j : ℕ) {s p r : ℕ} {q : Share} {ν : Sym} {τs : Tys} {b c o : ℕ} {len : Val} {σ σ' τ : Ty} {d d' : ℕ} {rest : Body}
       → nth 𝓛 n Γ ≡ ‵ (fat q (ty_struct ν τs) b zero (vstruct (vcons (vptr c o) (vcons len vnil)))) → spot_of 𝓤 H E s ≡ (ty_struct ν τs, b, zero)
       → field_at zero τs 0 ≡ some (σ, d) → field_at zero τs 1 ≡ some (σ', d')

@@ -7,7 +7,7 @@ use Rattle.std.proofs.Math.Option.{Option, none, some}
 use seplogic.Ra.Ura.{Ura}
 use mir.Syntax.{Ty, w64, field, deref, place, copy, rv_opd, addr_of, aggregate, Body, seq, assign}
 use mir.Val.{Val, vptr, vint, has_ty}
-use prog.Wp.{Heap, Env, Calls, Loops, spot_of, no_local}
+use prog.Wp.{Env, Calls, Loops, spot_of, no_local}
 use types.Logic.{Logic}
 use types.Kit.{Item, Post, Seq, runs, ◌$◌}
 use denote.Slice.{slice_ty}
@@ -55,18 +55,20 @@ pub record Reading : Type 0 where
   pub room : Option (Option Val)
   pub fits : Bool
 
-module _ {M : Type 1} (𝓤 : Ura M) (H : Heap 𝓤) (E : Env 𝓤 H) where
+module _ {M : Type 1} {𝓤 : Ura M} (𝓛 : Logic 𝓤) (E : Env 𝓤 𝓛.H) where
+  open 𝓛 use {H}
+
   abbrev pub Lends : Known → (s p r b o n : ℕ) → Ty → Type 0
   Lends vs s p r b o n σ =
       let us = keeps p (vptr b o) vs in
       ◌≡◌ {A = Lending} (record {
         type = (get_or E s (no_local 𝓤 H)).0;
-        slice = known_at {𝓤 = 𝓤} _ E vs s;
-        for_ref = known_at {𝓤 = 𝓤} _ E vs p;
+        slice = known_at 𝓛 E vs s;
+        for_ref = known_at 𝓛 E vs p;
         ref_fits = has_ty (spot_of 𝓤 H E p).0 (vptr b o);
-        slice_then = known_at {𝓤 = 𝓤} _ E us s;
-        ref_then = known_at {𝓤 = 𝓤} _ E us p;
-        for_slice = known_at {𝓤 = 𝓤} _ E us r;
+        slice_then = known_at 𝓛 E us s;
+        ref_then = known_at 𝓛 E us p;
+        for_slice = known_at 𝓛 E us r;
         slice_fits = has_ty (spot_of 𝓤 H E r).0 (slice_of b o n);
       })
       (record {
@@ -82,7 +84,7 @@ module _ {M : Type 1} (𝓤 : Ura M) (H : Heap 𝓤) (E : Env 𝓤 H) where
 
   abbrev pub Reads : Known → ℕ → ℕ → Ty → Val → Val → Type 0
   Reads vs s p τ u v =
-      ◌≡◌ {A = Reading} (record { type = (get_or E s (no_local 𝓤 H)).0; held = known_at {𝓤 = 𝓤} _ E vs s; room = known_at {𝓤 = 𝓤} _ E vs p; fits = has_ty (spot_of 𝓤 H E p).0 v })
+      ◌≡◌ {A = Reading} (record { type = (get_or E s (no_local 𝓤 H)).0; held = known_at 𝓛 E vs s; room = known_at 𝓛 E vs p; fits = has_ty (spot_of 𝓤 H E p).0 v })
       (record { type = τ; held = some (some u); room = some none; fits = true })
 
   -- A piece of code is sound: what it lends on and reads is there. At given locals each is one
@@ -95,10 +97,10 @@ module _ {M : Type 1} (𝓤 : Ura M) (H : Heap 𝓤) (E : Env 𝓤 H) where
 
 module _ {M : Type 1} {𝓤 : Ura M} {𝓛 : Logic 𝓤} {K : Type 0} (Δ : List (Item 𝓤)) (E : Env 𝓤 𝓛.H) (Γ : List (Item 𝓤))
     {C : Calls 𝓤 𝓛.H} {Λ : Loops 𝓤 𝓛.H} {z : Post 𝓤 𝓛.H} where
-  -- It is run.
   open 𝓛 use {H}
 
-  pub straight : K → (ss : List Stmt) (vs : Known) (rest : Body) → Sound 𝓤 H E ss vs
+  -- It is run.
+  pub straight : K → (ss : List Stmt) (vs : Known) (rest : Body) → Sound 𝓛 E ss vs
       → Seq K 𝓛 (Δ ++ locals 𝓛 E (after ss vs) Γ) (runs C Λ E rest z) → Seq K 𝓛 (Δ ++ locals 𝓛 E vs Γ) (runs C Λ E (coded ss rest) z)
   straight t [] vs rest ok k = k
   straight t (lend s p r b o n σ τ ∷ ss) vs rest ok k =

@@ -13,7 +13,7 @@ use mir.Val.{Val, vbool}
 use base.Logic.{SProp}
 use prog.Wp.{Heap, Env, Out, next, Calls, Loops, Tables, Wp, at_return, after_seq, after_block, after_turn, spot_of}
 use types.Logic.{Logic}
-use types.Kit.{Item, Goal, Post, any_q, at_ret, post, prop, runs, frees, Seq, Step, step, ◌$◌}
+use types.Kit.{Item, Goal, Post, any_q, at_ret, post, prop, runs, frees, Seq, Step, ◌$◌}
 use types.Run.{Reads, Opd, Below, first, skips, jumps, blocks, branches, returns_within, again, loops}
 
 -- The measure falls.
@@ -35,15 +35,16 @@ pub record Round {M : Type 1} (𝓤 : Ura M) (H : Heap 𝓤) : Type 2 where
   pub measure : State → ℕ
   pub holds : State → List (Item 𝓤)
 
-module _ {M : Type 1} {𝓤 : Ura M} {𝓛 : Logic 𝓤} where
-  open 𝓛 use {H}
-
+module _ {M : Type 1} {𝓤 : Ura M} {H : Heap 𝓤} where
   abbrev runs_in : Round 𝓤 H → Body → Post 𝓤 H → Goal 𝓤 H
   runs_in ρ b q = runs ρ.tables.C ρ.tables.Λ ρ.env b q
 
   -- The rest of the function.
   abbrev pub Rest : Round 𝓤 H → Goal 𝓤 H
   Rest ρ = runs_in ρ ρ.rest (at_ret ρ.env ρ.aim)
+
+module _ {M : Type 1} {𝓤 : Ura M} (𝓛 : Logic 𝓤) where
+  open 𝓛 use {H}
 
   -- What a turn from the state x is to come to: the next turn, at a smaller state; or the loop is
   -- left, and the rest runs; or the function returns.
@@ -70,33 +71,33 @@ pub gives : {M : Type 1} {𝓤 : Ura M} {𝓛 : Logic 𝓤} {K : Type 0} {Γ : L
 gives t Kf rd = returns_within t Kf refl rd
 
 module _ {M : Type 1} {𝓤 : Ura M} {𝓛 : Logic 𝓤} {K : Type 0} where
-  -- A loop, from the state x.
   open 𝓛 use {H}
 
-  pub looped : K → (ρ : Round 𝓤 H) {b : Body} → ((x : ρ.State) → Seq K 𝓛 (ρ.holds x) (Turn {𝓛 = 𝓛} ρ x b)) → (x : ρ.State)
+  -- A loop, from the state x.
+  pub looped : K → (ρ : Round 𝓤 H) {b : Body} → ((x : ρ.State) → Seq K 𝓛 (ρ.holds x) (Turn 𝓛 ρ x b)) → (x : ρ.State)
       → Seq K 𝓛 (ρ.holds x) (runs_in ρ (seq (block (loop b)) ρ.rest) (at_ret ρ.env ρ.aim))
   looped t ρ turn x = first t $ blocks t $ loops t ρ.tables (Falls ρ.measure) (falls_ends ρ.measure) ρ.holds turn x
 
   -- The turn has ended, and another begins at the state y.
-  pub turns : K → (ρ : Round 𝓤 H) (x y : ρ.State) → Falls ρ.measure y x → Seq K 𝓛 (ρ.holds y) (prop (Turned {𝓛 = 𝓛} ρ x next))
+  pub turns : K → (ρ : Round 𝓤 H) (x y : ρ.State) → Falls ρ.measure y x → Seq K 𝓛 (ρ.holds y) (prop (Turned 𝓛 ρ x next))
   unfolding after_turn
   turns t ρ x y less = again t (Falls ρ.measure) ρ.holds x y less
 
   module _ {Γ : List (Item 𝓤)} where
     -- The test of a `while`: the turn goes on, or the rest of the function runs.
     pub tested : K → (ρ : Round 𝓤 H) (x : ρ.State) {c : Operand} {b : Body} {y : Bool} → Opd K 𝓛 Γ ρ.env c (vbool y)
-        → (T y → Seq K 𝓛 Γ (Turn {𝓛 = 𝓛} ρ x b)) → (T (not y) → Seq K 𝓛 Γ (Rest ρ)) → Seq K 𝓛 Γ (Turn {𝓛 = 𝓛} ρ x (seq (cond c skip (exit 1)) b))
+        → (T y → Seq K 𝓛 Γ (Turn 𝓛 ρ x b)) → (T (not y) → Seq K 𝓛 Γ (Rest ρ)) → Seq K 𝓛 Γ (Turn 𝓛 ρ x (seq (cond c skip (exit 1)) b))
     unfolding after_turn
     tested t ρ x o held failed = first t $ branches t o (λ z. skips t $ record { prf = (held z).prf }) (λ z. jumps t $ record { prf = (failed z).prf })
 
     -- `if c { break; }`, and then b.
     pub breaks : K → (ρ : Round 𝓤 H) (x : ρ.State) {c : Operand} {b : Body} {y : Bool} → Opd K 𝓛 Γ ρ.env c (vbool y)
-        → (T y → Seq K 𝓛 Γ (Rest ρ)) → (T (not y) → Seq K 𝓛 Γ (Turn {𝓛 = 𝓛} ρ x b)) → Seq K 𝓛 Γ (Turn {𝓛 = 𝓛} ρ x (seq (cond c (exit 1) skip) b))
+        → (T y → Seq K 𝓛 Γ (Rest ρ)) → (T (not y) → Seq K 𝓛 Γ (Turn 𝓛 ρ x b)) → Seq K 𝓛 Γ (Turn 𝓛 ρ x (seq (cond c (exit 1) skip) b))
     unfolding after_turn
     breaks t ρ x o held failed = first t $ branches t o (λ z. jumps t $ record { prf = (held z).prf }) (λ z. skips t $ record { prf = (failed z).prf })
 
     -- `if c { v = a; return; }`, and then b: the return itself.
     pub gives_up : K → (ρ : Round 𝓤 H) (x : ρ.State) {go : SProp 𝓤} {r : Val} → Reads K 𝓛 Γ (spot_of 𝓤 H ρ.env zero).0 (spot_of 𝓤 H ρ.env zero).1 zero r
-        → Step K 𝓛 Γ (frees ρ.env (prop (ρ.aim r))) Γ (runs_in ρ return (any_q (after_seq 𝓤 H go (Turned {𝓛 = 𝓛} ρ x))))
+        → Step K 𝓛 Γ (frees ρ.env (prop (ρ.aim r))) Γ (runs_in ρ return (any_q (after_seq 𝓤 H go (Turned 𝓛 ρ x))))
     unfolding after_turn
     gives_up t ρ x rd = returns_within t ρ.aim refl rd

@@ -1,6 +1,8 @@
 // Words of 64 bits and the bytes of a sheet: a part of a sheet of 0 and 1 read into a word, labels
 // written from words, eight bytes at a time wherever eight are left; the low bits of a word, and
 // how many bits of it are set.
+#![tactic(auto)]
+
 ghost use Rattle.std.specs.Prelude.{◌≡◌, ◌+◌, ◌*◌, ◌/◌, ◌^◌, ◌<◌, ◌≤◌, length};
 ghost use Rattle.bits.specs.Bit.{Mask};
 ghost use Rattle.words.specs.Words.{Ones, ReadingWord, Reads, WrittenAt};

@@ -1,6 +1,8 @@
 // The map writer: raw PBM, P4, from a sheet on which the rocks are stamped. The file's length comes
 // first, so that an output too short is found before a byte of it is touched. Then each piece of
 // the file is written into its own part of the output.
+#![tactic(auto)]
+
 ghost use Rattle.std.specs.Prelude.{◌≡◌, ◌∷◌, [], ◌++◌, ◌≤◌, ◌+◌, length};
 ghost use Rattle.sheets.specs.Promise.{Fits};
 ghost use Rattle.writer.specs.Promise.{Writes};

@@ -3,7 +3,7 @@
 -- neighbour.
 use Rattle.std.specs.Prelude.{◌≡◌, refl, ◌↔◌, ℕ, zero, suc, ◌+◌, ◌-◌, ◌<◌, ◌≤◌}
 use Rattle.std.proofs.Common.{subst, arith, mul-le-mul_right}
-use Rattle.std.proofs.Math.Logic.{Dec·and}
+use Rattle.std.proofs.Math.Logic.Dec
 use Rattle.std.proofs.Math.Decide.{dec_le, map_dec}
 use Rattle.field.specs.Map.{OnMap, west, south, number}
 use Rattle.field.specs.Labels.{Stable, count, Count}
@@ -67,13 +67,13 @@ below_dec P dec (suc x) = go (dec x)
 pub corner_dec : (C : ℕ → ℕ → Type 0) → ((x y : ℕ) → Dec (C x y)) → (x y : ℕ) → Dec (Corner C x y)
 corner_dec C dec x y =
     map_dec (λ t. record { closed = t.0; no_west = t.1.0; no_south = t.1.1 }) (λ t. (t.closed, (t.no_west, t.no_south)))
-    (Dec·and (dec x y) (Dec·and (below_dec (λ a. C a y) (λ a. dec a y) x) (below_dec (C x) (dec x) y)))
+    (Dec.and (dec x y) (Dec.and (below_dec (λ a. C a y) (λ a. dec a y) x) (below_dec (C x) (dec x) y)))
 
 within_dec : (x₀ x₁ y₀ y₁ a b : ℕ) → Dec (Within x₀ x₁ y₀ y₁ a b)
 within_dec x₀ x₁ y₀ y₁ a b =
     map_dec (λ t. record { from_west = t.0.0; to_east = t.0.1; from_south = t.1.0; to_north = t.1.1 })
     (λ t. ((t.from_west, t.to_east), (t.from_south, t.to_north)))
-    (Dec·and (Dec·and (dec_le x₀ a) (dec_le a x₁)) (Dec·and (dec_le y₀ b) (dec_le b y₁)))
+    (Dec.and (Dec.and (dec_le x₀ a) (dec_le a x₁)) (Dec.and (dec_le y₀ b) (dec_le b y₁)))
 
 module _ (w h : ℕ) (C : ℕ → ℕ → Type 0) (on : OnMap w h C) (st : Stable w h C) (dec : (x y : ℕ) → Dec (C x y)) where
   -- Whether two crossings are in one group can be told from the rectangle.

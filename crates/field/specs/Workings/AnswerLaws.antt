@@ -4,7 +4,8 @@ use Rattle.std.specs.Prelude.{◌≡◌, Bool, true, List, ◌⊎◌, ◌↔◌,
 use Rattle.std.proofs.Math.Path.{refl}
 use Rattle.std.proofs.Common.{sym, ◌∙◌, true≢false, inl, inr}
 use Rattle.std.proofs.Math.Bool.{false}
-use Rattle.std.proofs.Math.Logic.{Iff·symm, Iff·trans, Dec·and}
+use Rattle.std.proofs.Math.Logic.Iff
+use Rattle.std.proofs.Math.Logic.Dec
 use Rattle.std.proofs.Math.Decide.{ℕ_discrete}
 use Rattle.field.specs.Workings.Tests.{only, off_looks}
 use Rattle.field.specs.Map.{Apart}
@@ -23,11 +24,11 @@ module _ (w h : ℕ) (C : ℕ → ℕ → Type 0) (s : List ℕ) (D : Draws w h 
   -- Each test tells whether its hop is permitted.
   pub east_west_permitted : Permitted w h C hx hy x y (hop_to x hx) y ↔ east_west_of s w h hx x y ≡ true
   unfolding east_west_of
-  east_west_permitted = Iff·trans (Iff·symm row_permitted) (off_looks _ (open_looks w h C s D (hop_to x hx) y) x hx)
+  east_west_permitted = Iff.trans (Iff.symm row_permitted) (off_looks _ (open_looks w h C s D (hop_to x hx) y) x hx)
 
   pub north_south_permitted : Permitted w h C hx hy x y x (hop_to y hy) ↔ north_south_of s w h hy x y ≡ true
   unfolding north_south_of
-  north_south_permitted = Iff·trans (Iff·symm column_permitted) (off_looks _ (open_looks w h C s D x (hop_to y hy)) y hy)
+  north_south_permitted = Iff.trans (Iff.symm column_permitted) (off_looks _ (open_looks w h C s D x (hop_to y hy)) y hy)
 
   -- The hops that the two tests tell are the permitted ones.
   pub permitted_looks : (a b : ℕ) → (Permitted w h C hx hy x y a b ↔ HopTested s w h hx hy x y a b)
@@ -70,7 +71,7 @@ module _ (w h : ℕ) (C : ℕ → ℕ → Type 0) (s : List ℕ) (D : Draws w h 
       go true true p q = both (hop_to x hx) y x (hop_to y hy) (east_west_permitted.1 p) refl (north_south_permitted.1 q) refl refl
       go true false p q = just (hop_to x hx) y (east_west_permitted.1 p) (row_alone q) refl
       go false true p q = just x (hop_to y hy) (north_south_permitted.1 q) (column_alone p) refl
-      go false false p q = at_home (home p q (Dec·and (ℕ_discrete x hx) (ℕ_discrete y hy))) refl
+      go false false p q = at_home (home p q (Dec.and (ℕ_discrete x hx) (ℕ_discrete y hy))) refl
 
   -- Where some hop is permitted unless the place is home, the answer names the hops that the tests
   -- tell.

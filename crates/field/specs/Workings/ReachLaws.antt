@@ -5,7 +5,7 @@ use Rattle.std.specs.Prelude.{◌≡◌, Bool, ◌&&◌, ◌||◌, List, ◌↔�
 use Rattle.std.proofs.Common.{sym, ap, ◌∙◌, true≢false, arith, ltb-true, lt-ltb, eqb-true, eq-eqb}
 use Rattle.std.proofs.Math.Path.{subst}
 use Rattle.std.proofs.Math.Bool.{true}
-use Rattle.std.proofs.Math.Logic.{Iff·symm}
+use Rattle.std.proofs.Math.Logic.Iff
 use Prim.Native.Nat.{ℕ, zero, suc, ◌+◌, ◌<◌, ◌≤◌}
 use Rattle.std.proofs.Math.Decide.{dec_le, map_dec}
 use Rattle.std.proofs.Math.Dec.{ltb}
@@ -25,7 +25,7 @@ use Rattle.field.specs.Workings.RegionLaws.{region_split, has_drive_in, region_s
 module _ (w h : ℕ) (C : ℕ → ℕ → Type 0) (c : List ℕ) (D : Draws w h C c) where
   -- The test for an open crossing.
   pub open_looks : (x y : ℕ) → (open_of c w h x y ≡ true) ↔ Open w h C x y
-  open_looks x y = Iff·symm (AssuredLaws.open_looks w h C c D x y)
+  open_looks x y = Iff.symm (AssuredLaws.open_looks w h C c D x y)
 
   module _ (dx dy : ℕ) where
     -- (x, y) has a shortest drive to d, of at most n hops.

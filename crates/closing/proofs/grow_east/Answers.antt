@@ -1,0 +1,35 @@
+-- `closing::grow_east` meets its contract. The loop's invariant: the words passed are grown.
+use mathlib.Core.Path.{◌≡◌}
+use Prim.Native.Nat.{ℕ, ◌+◌, ◌-◌, ◌*◌, ◌<◌, ◌≤◌}
+use native.Mathlib.Omega.{arith}
+use Rattle.closing.specs.Growth.{Sweeps}
+use Rattle.rows.specs.Layout.{words, sides_w}
+use Rattle.closing.proofs.Laws.Sweeping.{sweeps_start, sweeps_next, sweeps_all}
+use Rattle.rows.specs.Laws.{last_or_before}
+use borrow.Author.Rules.{rules}
+use Rattle.closing.proofs.grow_east.Goals as goal
+
+pub loop-j-init : goal.loop-j-init
+loop-j-init c = (omega arith, sides_w c.requires.sweeping.sides, sweeps_start c.requires.sweeping.rows (λ b a d. omega (arith, d.1)))
+
+pub grow_word-d-requires : goal.grow_word-d-requires
+grow_word-d-requires c =
+    let i = c.loop-j.invariant in
+    record {
+      sweeping = record { sides = c.requires.sweeping.sides; rows = i.2.grown.rows };
+      in_y = c.requires.in_y;
+      in_x = omega arith;
+    }
+
+pub loop-j-preserved : goal.loop-j-preserved
+loop-j-preserved c =
+    let l = c.loop-j in
+    (omega arith, l.invariant.1, sweeps_next l.invariant.2 c.grow_word-d.ensures (λ b a p. last_or_before l.j a p.1 (λ m. (p.0, m)) (λ m. (p.0, m))) (λ b a p. (p.0, omega (arith, p.1))) (λ b a p. (p.0, omega (arith, p.1))))
+
+pub shape_of-c : goal.shape_of-c
+shape_of-c c = c.loop-j.invariant.2.grown.size
+
+pub returns : goal.returns
+returns c =
+    let i = c.loop-j.invariant in
+    sweeps_all (λ b a p. (p.0, omega (arith, p.1))) (λ b a p. (p.0, omega (arith, i.0, p.1))) i.2

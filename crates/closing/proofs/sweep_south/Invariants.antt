@@ -1,0 +1,17 @@
+-- `closing::sweep_south` meets its contract. The loop's invariant: the rows passed are looked at.
+use mathlib.Core.Path.{◌≡◌, refl, ◌∙◌}
+use Prim.Native.Nat.{ℕ, ◌*◌, ◌<◌, ◌≤◌}
+use native.Mathlib.Omega.{arith}
+use lib.ListN.{length}
+use Rattle.closing.specs.Growth.{Sweeps}
+use Rattle.closing.specs.Closes.{Marks}
+use Rattle.closing.proofs.Laws.Sweeping.{sweeps_start, sweeps_next, sweeps_all}
+use Rattle.rows.specs.Laws.{first_or_behind}
+use borrow.Author.Rules.{rules}
+use Rattle.closing.proofs.sweep_south.Given as goal
+
+abbrev pub invariant-loop-y : goal.invariant-loop-y
+invariant-loop-y l = (l.y ≤ l.h) × (Sweeps (λ (b a : ℕ). (l.y ≤ b) × (b < l.h) × (64 * a < l.w)) l.w l.h l.initial.c l.c l.d) × Marks l.w l.h l.c l.f × (length l.f ≡ length l.initial.f)
+
+abbrev pub decreases-loop-y : goal.decreases-loop-y
+decreases-loop-y l = l.y

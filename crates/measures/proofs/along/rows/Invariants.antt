@@ -1,0 +1,14 @@
+-- `along::rows` meets its contract. The invariant: the rows passed have their running numbers.
+use mathlib.Core.Path.{sym, subst, ◌∙◌}
+use Prim.Native.Nat.{◌-◌, ◌≤◌}
+use native.Mathlib.Omega.{arith}
+use Rattle.field.specs.Map.{On}
+use Rattle.measures.specs.Running.{Own}
+use Rattle.measures.proofs.Rows.{RowsPassed, rows_none, rows_more, rows_all}
+use Rattle.measures.proofs.along.rows.Given as goal
+
+abbrev pub invariant-loop-y : goal.invariant-loop-y
+invariant-loop-y l = (l.y ≤ l.h) × RowsPassed l.w l.h l.high l.initial.out l.out l.y
+
+abbrev pub decreases-loop-y : goal.decreases-loop-y
+decreases-loop-y l = l.h - l.y

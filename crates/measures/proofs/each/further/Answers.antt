@@ -1,0 +1,15 @@
+-- `each::further` meets its contract, by the end that it counts from.
+
+use Rattle.measures.proofs.each.further.Goals as goal
+
+pub overflow_sub-result : goal.overflow_sub-result
+overflow_sub-result c = c.requires.below c.if-high.true
+
+pub returns-then-high : goal.returns-then-high
+returns-then-high c = rw c.if-high.true
+
+pub overflow_add-result : goal.overflow_add-result
+overflow_add-result c = record { fits = c.requires.few }
+
+pub returns : goal.returns
+returns c = rw c.if-high.false

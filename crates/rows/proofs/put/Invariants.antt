@@ -1,0 +1,15 @@
+-- `rows::put` meets its contract. The loop's invariant: the rows passed have their labels.
+use Prim.Native.Nat.{ℕ, ◌-◌, ◌*◌, ◌<◌, ◌≤◌}
+use native.Mathlib.Omega.{arith}
+use Rattle.rows.specs.Sheets.{Wrote}
+use Rattle.rows.specs.Layout.{sides_w}
+use Rattle.rows.proofs.Laws.Writing.{wrote_start, wrote_next, wrote_all, putting_next}
+use Rattle.rows.specs.Laws.{last_or_before}
+use borrow.Author.Rules.{rules}
+use Rattle.rows.proofs.put.Given as goal
+
+abbrev pub invariant-loop-y : goal.invariant-loop-y
+invariant-loop-y l = (l.y ≤ l.h) × Wrote (λ (b a : ℕ). (b < l.y) × (64 * a < l.w)) l.w l.h l.rock l.c l.initial.s l.s
+
+abbrev pub decreases-loop-y : goal.decreases-loop-y
+decreases-loop-y l = l.h - l.y

@@ -1,0 +1,15 @@
+-- `rows::read` meets its contract. The loop's invariant: the rows passed are read.
+use mathlib.Core.Path.{◌≡◌, refl, ◌∙◌}
+use Prim.Native.Nat.{ℕ, ◌-◌, ◌<◌, ◌≤◌}
+use native.Mathlib.Omega.{arith}
+use lib.ListN.{length}
+use Rattle.rows.specs.Sheets.{Drawing}
+use Rattle.rows.proofs.Laws.Reading.{draw_start, draw_done}
+use borrow.Author.Rules.{rules}
+use Rattle.rows.proofs.read.Given as goal
+
+abbrev pub invariant-loop-y : goal.invariant-loop-y
+invariant-loop-y l = (l.y ≤ l.h) × (length l.c ≡ length l.initial.c) × Drawing (λ (b a : ℕ). b < l.y) l.w l.h l.s l.c
+
+abbrev pub decreases-loop-y : goal.decreases-loop-y
+decreases-loop-y l = l.h - l.y

@@ -1,0 +1,15 @@
+-- `words::write_eights` meets its contract. The loop's invariant: the bytes passed are written.
+use mathlib.Core.Path.{◌≡◌}
+use Prim.Native.Nat.{◌-◌, ◌*◌, ◌/◌, ◌%◌, ◌^◌, ◌≤◌}
+use native.Mathlib.Omega.{arith}
+use lib.Bits.{and_le_r}
+use Rattle.words.specs.Words.{WrittenAt}
+use Rattle.words.proofs.Laws.Words.{written_start, written_eight}
+use borrow.Author.Rules.{rules}
+use Rattle.words.proofs.write_eights.Given as goal
+
+abbrev pub invariant-loop-x : goal.invariant-loop-x
+invariant-loop-x l = (l.x ≤ l.n) × (l.x % 8 ≡ 0) × WrittenAt l.i l.ro l.sh l.initial.s l.s l.x
+
+abbrev pub decreases-loop-x : goal.decreases-loop-x
+decreases-loop-x l = l.n - l.x
