@@ -17,10 +17,10 @@ pub returns-then-n-h : goal.returns-then-n-h
 returns-then-n-h c = inr (λ n. n (told_yes c.sized.ensures c.if-not-sized.false), inl (inl (λ e. omega arith), refl))
 
 pub returns-then-not-others : goal.returns-then-not-others
-returns-then-not-others c = inr (λ n. n (told_yes c.sized.ensures c.if-not-sized.false), inl (inr (not-true _ c.if-not-others.true), refl))
+returns-then-not-others c = inr (λ n. n (told_yes c.sized.ensures c.if-not-sized.false), inl (inr (c.if-not-others.true), refl))
 
 pub returns-then-not-well : goal.returns-then-not-well
-returns-then-not-well c = inr (λ n. n (told_yes c.sized.ensures c.if-not-sized.false), inr (⊎_elim (λ n. n (omega (arith, c.if-n-h.false))) (yes_no c.if-not-others.false), inl (not-true _ c.if-not-well.true, refl)))
+returns-then-not-well c = inr (λ n. n (told_yes c.sized.ensures c.if-not-sized.false), inr (⊎_elim (λ n. n (omega (arith, c.if-n-h.false))) (yes_no c.if-not-others.false), inl (c.if-not-well.true, refl)))
 
 pub returns-then-not-on_map : goal.returns-then-not-on_map
 returns-then-not-on_map c =

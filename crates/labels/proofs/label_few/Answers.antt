@@ -1,0 +1,20 @@
+-- `labels::label_few` meets its contract. There are words enough for few rows.
+use mathlib.Core.Path.{refl}
+use Prim.Native.Nat.{◌+◌, ◌*◌}
+use native.Mathlib.Omega.{arith}
+use Rattle.rows.specs.Layout.{stride}
+use Rattle.rows.specs.Laws.{zeros_at}
+use Rattle.labels.specs.Memory.{few}
+use borrow.Author.Rules.{rules}
+use Rattle.labels.proofs.label_few.Goals as goal
+
+pub read-requires : goal.read-requires
+read-requires c =
+    let p = c.requires in
+    record { stamped = p.0; long = omega (arith, p.1); blank = zeros_at ((few + 2) * stride) }
+
+pub label_read-requires : goal.label_read-requires
+label_read-requires c = record { stamped = c.requires.0; drawn = c.read.ensures; same = refl }
+
+pub returns : goal.returns
+returns c = c.label_read.ensures
