@@ -1,11 +1,12 @@
 -- Going along a drawn list: what is left to be found from position p on, after (x, y), is what the
 -- check of the whole list after s finds.
 use mathlib.Core.Path.{◌≡◌, refl, sym, ap, ◌∙◌}
-use mathlib.Core.Bool.{Bool, true, false, cond, ◌&&◌}
+use mathlib.Core.Bool.{true, false, ◌&&◌}
 use mathlib.Core.List.{List, [], ◌∷◌}
-use Prim.Native.Nat.{ℕ, suc, ◌+◌, ◌-◌, ◌<◌, ◌≤◌}
+use Prim.Native.Nat.{ℕ, ◌+◌, ◌-◌, ◌<◌, ◌≤◌}
 use native.Mathlib.Numerals.{add-one}
 use native.Mathlib.Omega.{arith}
+use native.Mathlib.Decide.{ℕ_discrete}
 use lib.Dec.{eqb}
 use lib.ListN.{length, get_or, drop, length-drop}
 use lib.Seq.{drop-cons}
@@ -18,6 +19,17 @@ use Rattle.field.specs.Workings.Checking.{found, step_of, check_from}
 use Rattle.field.specs.Workings.StepLaws.{step_on}
 use Rattle.sheets.specs.Promise.{Fits, Asked}
 use Rattle.checks.specs.Asking.{Numbered}
+
+-- The test for d: (x, y) is d, or it is not.
+at_d : {x y dx dy : ℕ} → x ≡ dx → y ≡ dy → (eqb x dx && eqb y dy) ≡ true
+at_d {x} {y} {dx} {dy} e f = rw (eq-eqb x dx e, eq-eqb y dy f)
+
+off_d : {x y dx dy : ℕ} → (x ≡ dx → y ≡ dy → ⊥) → (eqb x dx && eqb y dy) ≡ false
+off_d {x} {y} {dx} {dy} f = go (ℕ_discrete x dx)
+  where
+    go : Dec (x ≡ dx) → (eqb x dx && eqb y dy) ≡ false
+    go (yes e) = rw (eq-eqb x dx e, ne_eqb y dy (f e))
+    go (no n) = rw (ne_eqb x dx n)
 
 -- What the check finds after s.
 abbrev pub Rest : List ℕ → ℕ → ℕ → ℕ → ℕ → ℕ → ℕ → List ℕ → Finding
@@ -44,27 +56,27 @@ module _ {s : List ℕ} {w h sx sy dx dy : ℕ} {l : List ℕ} {x y p : ℕ} (o 
         go [] e = refl
         go (n ∷ m) e = absurd (omega arith)
 
-    pub onward_end : (eqb x dx && eqb y dy) ≡ true → found no_fault 0 ≡ Rest s w h sx sy dx dy l
+    pub onward_end : x ≡ dx → y ≡ dy → found no_fault 0 ≡ Rest s w h sx sy dx dy l
     unfolding check_from
-    onward_end t = (rw (nothing, t) at o.left)
+    onward_end t u = rw (nothing, at_d t u) at o.left
 
-    pub onward_short : (eqb x dx && eqb y dy) ≡ false → found ended_early p ≡ Rest s w h sx sy dx dy l
+    pub onward_short : (x ≡ dx → y ≡ dy → ⊥) → found ended_early p ≡ Rest s w h sx sy dx dy l
     unfolding check_from
-    onward_short t = (rw (nothing, t) at o.left)
+    onward_short t = rw (nothing, off_d t) at o.left
 
   -- The list has a number here.
   module _ (b : p < length l) where
     more : drop p l ≡ get_or l p 0 ∷ drop (p + 1) l
     more = drop-cons l p 0 b ∙ ap (λ (i : ℕ). get_or l p 0 ∷ drop i l) (sym (add-one p))
 
-    pub onward_after : (eqb x dx && eqb y dy) ≡ true → found went_on p ≡ Rest s w h sx sy dx dy l
+    pub onward_after : x ≡ dx → y ≡ dy → found went_on p ≡ Rest s w h sx sy dx dy l
     unfolding check_from
-    onward_after t = (rw (more, t) at o.left)
+    onward_after t u = rw (more, at_d t u) at o.left
 
-    module _ (t : (eqb x dx && eqb y dy) ≡ false) {u : Step} (e : u ≡ step_of s w h dx dy x y (get_or l p 0)) where
+    module _ (t : x ≡ dx → y ≡ dy → ⊥) {u : Step} (e : u ≡ step_of s w h dx dy x y (get_or l p 0)) where
       pub onward_fault : ¬ (u.reason ≡ no_fault) → found u.reason p ≡ Rest s w h sx sy dx dy l
       unfolding check_from
-      onward_fault f = (rw (more, t, ← e, ne_eqb u.reason no_fault f) at o.left)
+      onward_fault f = rw (more, off_d t, ← e, ne_eqb u.reason no_fault f) at o.left
 
       pub onward_next : u.reason ≡ no_fault → Onward s w h sx sy dx dy l u.x u.y (p + 1)
       unfolding check_from
@@ -72,5 +84,5 @@ module _ {s : List ℕ} {w h sx sy dx dy : ℕ} {l : List ℕ} {x y p : ℕ} (o 
           record {
             fits = o.fits;
             on = rw e (step_on s w h dx dy x y (get_or l p 0) o.on (rw e at f));
-            left = (rw (more, t, ← e, eq-eqb u.reason no_fault f) at o.left);
+            left = rw (more, off_d t, ← e, eq-eqb u.reason no_fault f) at o.left;
           }

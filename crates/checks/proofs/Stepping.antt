@@ -1,11 +1,11 @@
 -- The hop to a crossing by its number: which of the working's tests are passed, from what the
 -- code's tests show. `here` is the number of (x, y) as the code has it.
-use mathlib.Core.Path.{◌≡◌, sym, ap, ◌∙◌}
-use mathlib.Core.Bool.{Bool, true, false, ◌&&◌}
+use mathlib.Core.Path.{◌≡◌, ◌∙◌}
+use mathlib.Core.Bool.{true, false, ◌&&◌}
 use mathlib.Core.List.{List}
-use mathlib.Core.Logic.{◌⊎◌, inl, inr}
 use Prim.Native.Nat.{ℕ, zero, suc, ◌+◌, ◌-◌, ◌*◌, ◌<◌, ◌≤◌}
 use native.Mathlib.Omega.{arith}
+use native.Mathlib.Decide.{ℕ_discrete}
 use lib.Dec.{ltb, eqb}
 use lib.ListN.{length, get_or}
 use borrow.Author.Tests.{eq-eqb, ne_eqb, lt-ltb, le-ltb}
@@ -16,36 +16,39 @@ use Rattle.sheets.specs.Promise.{Fits, Numbered}
 use Rattle.checks.specs.Asking.{Stands}
 
 -- Two tests in a row: both pass, or one of them fails, by whichever way the code came past them.
-pub both : {p q : ℕ} {t : Bool} → p ≡ q → t ≡ true → (eqb p q && t) ≡ true
-both {p} {q} e f = rw (eq-eqb p q e, f)
+pub both_pass : {p q a b : ℕ} → p ≡ q → a < b → (eqb p q && ltb a b) ≡ true
+both_pass {p} {q} {a} {b} e f = rw (eq-eqb p q e, lt-ltb a b f)
 
-pub one_fails : {P Q : Type 0} {p q : ℕ} {t : Bool} → P ⊎ Q → (P → (p ≡ q) × (t ≡ false)) → (Q → (p ≡ q) → ⊥) → (eqb p q && t) ≡ false
-one_fails {p} {q} (inl k) f g = rw (eq-eqb p q (f k).0, (f k).1)
-one_fails {p} {q} (inr k) f g = rw (ne_eqb p q (g k))
+pub one_fails : {p q a b : ℕ} → (p ≡ q → b ≤ a) → (eqb p q && ltb a b) ≡ false
+one_fails {p} {q} {a} {b} f = go (ℕ_discrete p q)
+  where
+    go : Dec (p ≡ q) → (eqb p q && ltb a b) ≡ false
+    go (yes e) = rw (eq-eqb p q e, le-ltb a b (f e))
+    go (no n) = rw (ne_eqb p q n)
 
 module _ (dx dy : ℕ) {w h x y n here : ℕ} (k : Stands w h x y n) (e : Numbered w h x y here) where
   -- Each hop, where the tests before its own fail.
-  pub east_hop : (eqb n (here + 1) && ltb (x + 1) w) ≡ true → neighbour_of w dx dy x y n ≡ step_to (ltb x dx) (x + 1) y
+  pub east_hop : n ≡ here + 1 → x + 1 < w → neighbour_of w dx dy x y n ≡ step_to (ltb x dx) (x + 1) y
   unfolding neighbour_of
-  east_hop p = rw (← e.is, p)
+  east_hop p l = rw (← e.is, both_pass p l)
 
-  module _ (p : (eqb n (here + 1) && ltb (x + 1) w) ≡ false) where
-    pub west_hop : (eqb (n + 1) here && ltb 0 x) ≡ true → neighbour_of w dx dy x y n ≡ step_to (ltb dx x) (x - 1) y
+  module _ (p : n ≡ here + 1 → w ≤ x + 1) where
+    pub west_hop : n + 1 ≡ here → 0 < x → neighbour_of w dx dy x y n ≡ step_to (ltb dx x) (x - 1) y
     unfolding neighbour_of
-    west_hop q = rw (← e.is, p, q)
+    west_hop q l = rw (← e.is, one_fails p, both_pass q l)
 
-    module _ (q : (eqb (n + 1) here && ltb 0 x) ≡ false) where
+    module _ (q : n + 1 ≡ here → x ≤ 0) where
       pub north_hop : n ≡ here + w → neighbour_of w dx dy x y n ≡ step_to (ltb y dy) x (y + 1)
       unfolding neighbour_of
-      north_hop r = rw (← e.is, p, q, eq-eqb n (here + w) r)
+      north_hop r = rw (← e.is, one_fails p, one_fails q, eq-eqb n (here + w) r)
 
       pub south_hop : (n ≡ here + w → ⊥) → n + w ≡ here → neighbour_of w dx dy x y n ≡ step_to (ltb dy y) x (y - 1)
       unfolding neighbour_of
-      south_hop r t = rw (← e.is, p, q, ne_eqb n (here + w) r, eq-eqb (n + w) here t)
+      south_hop r t = rw (← e.is, one_fails p, one_fails q, ne_eqb n (here + w) r, eq-eqb (n + w) here t)
 
       pub no_hop : (n ≡ here + w → ⊥) → (n + w ≡ here → ⊥) → neighbour_of w dx dy x y n ≡ fault not_a_neighbour
       unfolding neighbour_of
-      no_hop r t = rw (← e.is, p, q, ne_eqb n (here + w) r, ne_eqb (n + w) here t)
+      no_hop r t = rw (← e.is, one_fails p, one_fails q, ne_eqb n (here + w) r, ne_eqb (n + w) here t)
 
 -- A number one row below has a row below.
 row_above : (w x y n : ℕ) → n + w ≡ number w x y → x < w → 1 ≤ y

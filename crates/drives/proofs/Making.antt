@@ -1,7 +1,7 @@
 -- What asking for a drive makes, as the promise says it, from what the region finds: refused with
 -- it, or by the route's length, or the drive written.
-use Rattle.std.proofs.Common.{◌≡◌, ℕ, ◌+◌, ◌<◌, ◌≤◌, List, [], ◌∷◌, length, refl, ◌∙◌, inl, inr, arith}
-use Rattle.field.specs.Map.{On, number, dist}
+use Rattle.std.proofs.Common.{◌≡◌, ℕ, ◌+◌, ◌<◌, ◌≤◌, List, [], ◌∷◌, length, refl, inl, inr, arith}
+use Rattle.field.specs.Map.{On, dist}
 use Rattle.field.specs.Drives.{HasDrive, InRegion, InOut, is_in, is_out, RegionSheet}
 use Rattle.field.specs.Workings.Sheet.{Marked}
 use Rattle.field.specs.Workings.RegionLaws.{has_drive_in}

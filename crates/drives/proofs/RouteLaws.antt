@@ -3,7 +3,7 @@
 -- crossing is always in the region, so there is a candidate as long as it is not d.
 use Rattle.std.proofs.Common.{◌≡◌, ℕ, suc, ◌+◌, ◌<◌, ◌≤◌, true, ◌⊎◌, List, [], ◌∷◌, ◌++◌, length, take, drop, set, sym, refl, ap, ◌∙◌, inl, inr, append_assoc, add-one, arith, length-set, take-suc-set, drop-set-lt}
 use Rattle.field.specs.Map.{side, number, Apart, gap, dist}
-use Rattle.field.specs.Drives.{HasDrive, InRegion, RegionSheet}
+use Rattle.field.specs.Drives.{InRegion, RegionSheet}
 use Rattle.field.specs.Chooser.{Candidate}
 use Rattle.field.specs.Workings.Sheet.{Marked}
 use Rattle.field.specs.Workings.Reaching.{east_west_in, north_south_in, chosen_of, drive_of}

@@ -58,7 +58,7 @@ pub struct Step {
 }
 
 // "each corner as depot (southwest, southeast, northwest, northeast)" (document 02, Req 05)
-#[derive(Drop)]
+#[derive(Clone, Copy)]
 pub enum Depot {
     SouthWest,
     SouthEast,

@@ -3,14 +3,13 @@ use mathlib.Core.Path.{◌≡◌, refl, sym, ap, ◌∙◌}
 use mathlib.Core.Bool.{Bool, true, false, ◌&&◌}
 use mathlib.Core.List.{List}
 use mathlib.Core.Logic.{◌↔◌, ◌≢◌}
-use Prim.Native.Nat.{ℕ, ◌<◌}
+use Prim.Native.Nat.{ℕ}
 use native.Mathlib.Omega.{arith}
-use native.Mathlib.Nat.{mul-le-mul_right}
 use native.Mathlib.Decide.{ℕ_discrete}
 use lib.Dec.{ltb, eqb}
 use lib.ListN.{get_or}
 use borrow.Author.Tests.{ltb-true, lt-ltb, le-ltb, eq-eqb, ne_eqb}
-use Rattle.field.specs.Map.{side, Sides, On, number, at, Apart}
+use Rattle.field.specs.Map.{On, number, at, Apart}
 use Rattle.field.specs.Workings.Tests.{off_looks}
 use Rattle.field.specs.Workings.Sheet.{Marked, bit, lit}
 use Rattle.field.specs.Workings.Marks.{lit_marked, marked_lit, or_right}

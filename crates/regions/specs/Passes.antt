@@ -1,8 +1,8 @@
 -- What the passes over the region sheet do, crossing by crossing. A pass starts at one end e of a
 -- drive and walks over the rectangle that the two ends span; it leaves a mark at e, and where a
 -- neighbour one hop nearer e has one.
-use Rattle.std.specs.Prelude.{◌≡◌, Bool, cond, ◌&&◌, ◌||◌, List, ℕ, ◌+◌, ◌*◌, ◌<◌, eqb, length, get_or}
-use Rattle.field.specs.Map.{Sides, On, number, at, gap}
+use Rattle.std.specs.Prelude.{◌≡◌, Bool, cond, ◌&&◌, ◌||◌, List, ℕ, ◌+◌, ◌*◌, eqb, length}
+use Rattle.field.specs.Map.{Sides, On, at, gap}
 use Rattle.field.specs.Workings.Sheet.{bit}
 use Rattle.field.specs.Workings.Reaching.{east_west_in, north_south_in}
 

@@ -1,12 +1,8 @@
--- `rest` meets its contract. The invariant: what is left to be found from position p on is what the
--- whole rest finds. The measure is how many numbers are left.
-use mathlib.Core.Path.{◌∙◌}
+-- The invariant: what is left to be found from position p on is what the whole rest finds. The
+-- measure is how many numbers are left.
 use Prim.Native.Nat.{◌-◌}
-use native.Mathlib.Omega.{arith}
-use borrow.Author.Rules.{rules}
 use lib.ListN.{length}
-use Rattle.checks.proofs.Stepping.{both, one_fails}
-use Rattle.checks.proofs.Going.{Onward, onward_start, onward_asked, onward_end, onward_short, onward_after, onward_fault, onward_next}
+use Rattle.checks.proofs.Going.{Onward}
 use Rattle.checks.proofs.rest.Given as goal
 
 abbrev pub invariant-loop-p : goal.invariant-loop-p

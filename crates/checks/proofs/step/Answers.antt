@@ -1,22 +1,13 @@
 -- `step` meets its contract: off the map, closed, and then the hop.
-use mathlib.Core.Path.{◌≡◌, sym, ◌∙◌}
-use native.Mathlib.Omega.{arith}
-use borrow.Author.Rules.{rules}
+use mathlib.Core.Path.{sym, ◌∙◌}
 use Rattle.checks.proofs.Stepping.{outside_step, closed_step, open_step}
 use Rattle.checks.proofs.step.Goals as goal
 
 pub returns-then-n-s : goal.returns-then-n-s
-returns-then-n-s c =
-    let a = c in
-    c.fault.ensures
-    ∙ sym (outside_step a.args.dx a.args.dy a.args.x a.args.y a.args.n a.requires.fits (omega (arith, c.if-n-s.true)))
+returns-then-n-s c = c.fault.ensures ∙ sym (outside_step _ _ _ _ _ c.requires.fits c.if-n-s.true)
 
 pub returns-then-s-n-gt0 : goal.returns-then-s-n-gt0
-returns-then-s-n-gt0 c =
-    let a = c in
-    c.fault-then-s-n-gt0.ensures ∙ sym (closed_step _ _ _ _ _ a.requires.fits a.if-n-s.false c.if-s-n-gt0.true)
+returns-then-s-n-gt0 c = c.fault-then-s-n-gt0.ensures ∙ sym (closed_step _ _ _ _ _ c.requires.fits c.if-n-s.false c.if-s-n-gt0.true)
 
 pub returns : goal.returns
-returns c =
-    let a = c in
-    c.neighbour.ensures ∙ sym (open_step _ _ _ _ _ a.requires.fits a.if-n-s.false c.if-s-n-gt0.false)
+returns c = c.neighbour.ensures ∙ sym (open_step _ _ _ _ _ c.requires.fits c.if-n-s.false c.if-s-n-gt0.false)

@@ -1,5 +1,4 @@
 -- `step_to` meets its contract: it makes the working's choice.
-use borrow.Author.Rules.{rules}
 use Rattle.field.specs.Workings.Checking.{step_to}
 use Rattle.checks.proofs.step_to.Goals as goal
 

@@ -1,0 +1,8 @@
+-- `draw` meets its contract: wrapping the product first does not change the sum's remainder.
+use Rattle.std.proofs.Common.{arith}
+use Rattle.field.specs.Chooser.{drawn}
+use Rattle.drives.proofs.draw.Goals as goal
+
+pub returns : goal.returns
+unfolding drawn
+returns c = omega (arith, c.wrapping_product.ensures, c.wrapping_add_u32.ensures)

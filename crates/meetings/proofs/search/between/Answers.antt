@@ -1,0 +1,10 @@
+-- `search::between` meets its contract: no side is so long that a place more would wrap.
+use native.Mathlib.Omega.{arith}
+use Rattle.field.specs.Limits.{side_is}
+use Rattle.meetings.proofs.search.between.Goals as goal
+
+pub overflow_add-result : goal.overflow_add-result
+overflow_add-result c = omega (arith, side_is)
+
+pub overflow_add-result-2 : goal.overflow_add-result-2
+overflow_add-result-2 c = omega (arith, side_is)
