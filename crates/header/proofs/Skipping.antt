@@ -21,13 +21,9 @@ use Rattle.mapfile.specs.HeaderWorking.{
   comment_goes_on,
 }
 use Rattle.header.specs.Left.{left_cons}
-use Rattle.header.specs.HeaderParts.{GapRead, gap_end, gap_at, Past, MaySkip}
+use Rattle.header.specs.HeaderParts.{GapRead, gap_end, gap_at, Past}
 use Rattle.header.specs.declared.Gap.{Gap}
 use Rattle.header.specs.declared.Gap.TheVariants.{Ends}
-
--- The other skipper may begin after a byte that was passed.
-pub may_skip_on : {s : List ℕ} {at : ℕ} {seen : Bool} (i : ℕ) (any : Bool) → MaySkip s at seen → i < length s → MaySkip s (i + 1) any
-may_skip_on i any m l = record { counted = m.counted; within = omega arith; past = λ e. omega arith }
 
 -- An end that is not 0 is a separator's end.
 pub gap_at_lem : (e : ℕ) → ¬ (e ≡ 0) → Ends e ≡ gap_at e
@@ -40,9 +36,6 @@ pub record SkippingBlanks (s : List ℕ) (at : ℕ) (seen : Bool) (i : ℕ) (any
   pub within : i ≤ length s
   pub past : Past i any
   pub same : after_items (drop at s) seen ≡ after_items (drop i s) any
-
-pub blanks_start : (s : List ℕ) (at : ℕ) (seen : Bool) → MaySkip s at seen → SkippingBlanks s at seen at seen
-blanks_start s at seen m = record { from = omega arith; within = m.within; past = m.past; same = refl }
 
 module _ {s : List ℕ} {at i : ℕ} {seen any : Bool} (k : SkippingBlanks s at seen i any) where
   pub blanks_more : i < length s → Blank (get_or s i 0) → SkippingBlanks s at seen (i + 1) true
@@ -79,9 +72,6 @@ pub record SkippingComment (s : List ℕ) (at : ℕ) (seen : Bool) (i : ℕ) : T
   pub from : at ≤ i
   pub within : i ≤ length s
   pub same : after_comment (drop at s) seen ≡ after_comment (drop i s) seen
-
-pub comment_start : (s : List ℕ) (at : ℕ) (seen : Bool) → MaySkip s at seen → SkippingComment s at seen at
-comment_start s at seen m = record { from = omega arith; within = m.within; same = refl }
 
 module _ {s : List ℕ} {at i : ℕ} {seen : Bool} (k : SkippingComment s at seen i) where
   pub comment_more : i < length s → ¬ LineEnd (get_or s i 0) → SkippingComment s at seen (i + 1)

@@ -12,7 +12,7 @@ use Rattle.mapfile.specs.Raster.{RawRaster}
 use Rattle.mapfile.specs.RasterWorking.{raw_bits}
 use Rattle.mapfile.specs.RasterLaws.{raw_raster}
 use Rattle.mapfile.specs.MarkerLaws.{ones, ones-le, ones_append}
-use Rattle.raster.specs.RasterParts.{row_bit, row_bits, RawRows, MayReadRow, RowRead, MayReadRows, RowsRead}
+use Rattle.raster.specs.RasterParts.{row_bit, row_bits, RowRead, MayReadRows, RowsRead}
 use Rattle.raster.proofs.Rows.{take_set}
 use Rattle.raster.proofs.PackedRows.{row_next, row_ones}
 

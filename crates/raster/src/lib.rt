@@ -13,7 +13,7 @@ ghost use Rattle.raster.specs.RasterParts.{with_fault, BitRoom, ReadAs, format_o
 
 // What reading a raster finds: the number of its first fault, or 0; and how many of its bits are
 // rocks.
-#[derive(Drop)]
+#[derive(Clone, Copy)]
 pub struct Judged {
     pub fault: u8,
     pub rocks: usize,

@@ -2,9 +2,9 @@
 -- when the first two are the same as those.
 use mathlib.Core.Path.{◌≡◌, ap, subst}
 use mathlib.Core.List.{List}
-use Prim.Native.Nat.{ℕ, ◌≤◌}
+use Prim.Native.Nat.{ℕ}
 use native.Mathlib.Omega.{arith}
-use lib.ListN.{length, drop}
+use lib.ListN.{drop}
 use Rattle.mapfile.specs.File.{Format, plain, raw, Letters, letters_of}
 use Rattle.header.specs.Letters.{SameTwo, two_first, first_two}
 use Rattle.reader.specs.LettersParts.{letters_number, letters_format, LettersRead}
@@ -23,9 +23,6 @@ pub letters_neither : (file : List ℕ) → ¬ SameTwo file (letters_of plain) �
     → ¬ Letters f file rest
 letters_neither file p q plain rest e = p (letters_same plain file rest e)
 letters_neither file p q raw rest e = q (letters_same raw file rest e)
-
-pub letters_long : (f : Format) (file rest : List ℕ) → Letters f file rest → 2 ≤ length file
-letters_long f file rest e = (letters_same f file rest e).long
 
 -- The answer of the first two bytes, by its number and format.
 pub names_plain : {file : List ℕ} → Letters plain file (drop 2 file) → LettersRead file Plain

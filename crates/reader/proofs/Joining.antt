@@ -9,23 +9,10 @@ use native.Mathlib.Decide.{dec_le}
 use lib.ListN.{length, take, drop, length-drop}
 use lib.Seq.{take_all}
 use Rattle.field.specs.Map.{Sides, most_markers}
-use Rattle.field.specs.Refusals.{no_slot, bad_size, bad_letters, bad_header}
+use Rattle.field.specs.Refusals.{bad_size, bad_letters, bad_header}
 use Rattle.mapfile.specs.Header.{Header}
-use Rattle.mapfile.specs.File.{
-  Format,
-  Letters,
-  Raster,
-  RasterFault,
-  MapFile,
-  markers_of,
-  FileFault,
-  no_letters,
-  no_header,
-  no_sides,
-  no_raster,
-  NoSlot,
-}
-use Rattle.reader.specs.Promise.{MapTaken, Reads}
+use Rattle.mapfile.specs.File.{Format, Letters, Raster, RasterFault, MapFile, markers_of, no_letters, no_header, no_sides, no_raster}
+use Rattle.reader.specs.Promise.{Reads}
 use Rattle.raster.specs.RasterParts.{RasterIn, ReadAs}
 use Rattle.raster.specs.declared.Judged.{Judged}
 use Rattle.reader.specs.ReadingParts.{

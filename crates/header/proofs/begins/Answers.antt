@@ -1,7 +1,6 @@
 -- `begins` meets its contract: at each return the tests say which of the three facts fails, or that
 -- all hold.
 use native.Mathlib.Omega.{arith}
-use borrow.Author.Rules.{rules}
 use Rattle.header.specs.Answers.{answer_no}
 use Rattle.header.proofs.begins.Goals as goal
 

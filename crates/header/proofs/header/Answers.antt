@@ -1,11 +1,8 @@
 -- `header` meets its contract: each number read goes before those that follow, and after the last
 -- the one blank byte ends the header.
-use Prim.Native.Nat.{◌-◌}
 use native.Mathlib.Omega.{arith}
-use lib.ListN.{length}
 use Rattle.header.proofs.Heading.{gap_ends, gap_missing, numeral_value, numeral_missing}
-use Rattle.header.proofs.Counting.{Counting, counting_start, counting_more, counting_stops, counting_ends, counting_unended}
-use borrow.Author.Rules.{rules}
+use Rattle.header.proofs.Counting.{counting_start, counting_more, counting_stops, counting_ends, counting_unended}
 use Rattle.header.proofs.header.Goals as goal
 
 pub loop-k-init : goal.loop-k-init
@@ -16,18 +13,18 @@ loop-k-init c =
 pub returns-in_default : goal.returns-in_default
 returns-in_default c =
     let l = c.loop-k in
-    counting_stops l.invariant (omega (arith, l.invariant.size)) (numeral_missing _ _ _ c.next_number_lem.ensures c.enum_told-1.given.1)
+    counting_stops l.invariant (omega (arith, l.invariant.size)) (numeral_missing _ _ _ c.next_number-next.ensures c.in_default.is)
 
 pub loop-k-preserved : goal.loop-k-preserved
 loop-k-preserved c =
     let l = c.loop-k in
-    let v = numeral_value _ _ _ _ _ c.next_number_lem.ensures c.next-1.given.1 in
+    let v = numeral_value _ _ _ _ _ c.next_number-next.ensures c.in-Value.is in
     counting_more l.invariant _ _ (omega (arith, l.invariant.size)) v.0 v.1
 
 pub returns-in-Ends : goal.returns-in-Ends
 returns-in-Ends c =
     let l = c.loop-k in
-    let e = gap_ends _ _ _ _ c.one_blank-last.ensures c.last-1.given.1 in
+    let e = gap_ends _ _ _ _ c.one_blank-last.ensures c.in-Ends.is in
     counting_ends l.invariant (omega (arith, l.invariant.size)) _ e.0 e.1
 
 pub returns-in-Missing : goal.returns-in-Missing

@@ -1,11 +1,8 @@
 -- `header` meets its contract: each number read goes before those that follow, and after the last
 -- the one blank byte ends the header.
 use Prim.Native.Nat.{◌-◌}
-use native.Mathlib.Omega.{arith}
 use lib.ListN.{length}
-use Rattle.header.proofs.Heading.{gap_ends, gap_missing, numeral_value, numeral_missing}
-use Rattle.header.proofs.Counting.{Counting, counting_start, counting_more, counting_stops, counting_ends, counting_unended}
-use borrow.Author.Rules.{rules}
+use Rattle.header.proofs.Counting.{Counting}
 use Rattle.header.proofs.header.Given as goal
 
 abbrev pub invariant-loop-k : goal.invariant-loop-k

@@ -6,11 +6,11 @@ use Rattle.mapfile.specs.Header.{Blank, space, tab, return, feed}
 use Rattle.header.specs.Answers.{answer_yes, answer_no}
 use Rattle.header.proofs.is_blank.Goals as goal
 
-no-blank : {b : ℕ} → ¬ (b ≡ 32) → ¬ (b ≡ 9) → ¬ (b ≡ 13) → ¬ (b ≡ 10) → ¬ Blank b
-no-blank p q r s (space e) = p e
-no-blank p q r s (tab e) = q e
-no-blank p q r s (return e) = r e
-no-blank p q r s (feed e) = s e
+no_blank : {b : ℕ} → ¬ (b ≡ 32) → ¬ (b ≡ 9) → ¬ (b ≡ 13) → ¬ (b ≡ 10) → ¬ Blank b
+no_blank p q r s (space e) = p e
+no_blank p q r s (tab e) = q e
+no_blank p q r s (return e) = r e
+no_blank p q r s (feed e) = s e
 
 pub returns-then-b-eq32 : goal.returns-then-b-eq32
 returns-then-b-eq32 c = answer_yes (space c.if-b-eq32.true)
@@ -25,4 +25,4 @@ pub returns-then-b-eq10 : goal.returns-then-b-eq10
 returns-then-b-eq10 c = answer_yes (feed c.if-b-eq10.true)
 
 pub returns : goal.returns
-returns c = answer_no (no-blank c.if-b-eq32.false c.if-b-eq9.false c.if-b-eq13.false c.if-b-eq10.false)
+returns c = answer_no (no_blank c.if-b-eq32.false c.if-b-eq9.false c.if-b-eq13.false c.if-b-eq10.false)

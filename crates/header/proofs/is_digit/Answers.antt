@@ -1,7 +1,6 @@
 -- `is_digit` meets its contract: each failed test is one bound.
 use native.Mathlib.Omega.{arith}
 use Rattle.header.specs.Answers.{answer_no}
-use borrow.Author.Rules.{rules}
 use Rattle.header.proofs.is_digit.Goals as goal
 
 pub returns-then-b-lt48 : goal.returns-then-b-lt48

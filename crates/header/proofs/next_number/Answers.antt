@@ -1,18 +1,15 @@
 -- `next_number` meets its contract: the number is read from where the separator ends, and where
 -- there is no separator there is no number.
 use Rattle.header.proofs.Heading.{gap_ends, gap_missing, next_some, next_none}
-use borrow.Author.Rules.{rules}
 use Rattle.header.proofs.next_number.Goals as goal
 
 pub number-requires : goal.number-requires
 number-requires c =
-    let g = c in
-    (gap_ends _ _ _ _ g.separator-gap.ensures g.gap-1.given.1).0
+    (gap_ends _ _ _ _ c.separator-gap.ensures c.in-Ends.is).0
 
 pub returns-in-Ends : goal.returns-in-Ends
 returns-in-Ends c =
-    let g = c in
-    rw (next_some _ _ (gap_ends _ _ _ _ g.separator-gap.ensures g.gap-1.given.1).1) c.number.ensures
+    rw (next_some _ _ (gap_ends _ _ _ _ c.separator-gap.ensures c.in-Ends.is).1) c.number.ensures
 
 pub returns-in-Missing : goal.returns-in-Missing
 returns-in-Missing c = next_none _ (gap_missing _ _ _ c.separator-gap.ensures c.in-Missing.is)

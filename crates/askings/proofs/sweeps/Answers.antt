@@ -1,0 +1,32 @@
+-- `sweeps` meets its promise: at a refusal nothing was called, and else the promise of sweeping is
+-- the one asked for.
+use mathlib.Core.Path.{refl}
+use mathlib.Core.Logic.{inl, inr}
+use native.Mathlib.Omega.{arith}
+use Rattle.calls.specs.AfterLaws.{labels_kept, labels_made}
+use Rattle.askings.proofs.Bridge.{early_of}
+use borrow.Author.Rules.{rules}
+use Rattle.askings.proofs.sweeps.Goals as goal
+
+pub returns-then-n-ne-UNREFUSED : goal.returns-then-n-ne-UNREFUSED
+returns-then-n-ne-UNREFUSED c =
+    record {
+      given = inl (c.if-n-ne-UNREFUSED.true, refl);
+      labels_after = labels_kept (early_of c.if-n-ne-UNREFUSED.true c.requires.early);
+      refused = λ _. refl;
+      done = λ e. absurd (c.if-n-ne-UNREFUSED.true e);
+    }
+
+pub sweeps-sweeps-requires : goal.sweeps-sweeps-requires
+sweeps-sweeps-requires c = c.requires.stamped c.if-n-ne-UNREFUSED.false
+
+pub returns : goal.returns
+returns c =
+    let swept = c in
+    let told = swept.sweeps-sweeps.ensures in
+    record {
+      given = inr (λ f. f swept.if-n-ne-UNREFUSED.false, refl);
+      labels_after = labels_made (λ e. omega (arith, e.0)) told.sheet;
+      refused = λ f. absurd (f refl);
+      done = λ _. told.sweeps-sweeps;
+    }

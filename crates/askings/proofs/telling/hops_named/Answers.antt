@@ -1,0 +1,13 @@
+-- `hops_named` meets its contract: each case of the enum has document 01's values.
+use mathlib.Core.Path.{refl}
+use borrow.Author.Rules.{rules}
+use Rattle.askings.proofs.telling.hops_named.Goals as goal
+
+pub returns-in-There : goal.returns-in-There
+returns-in-There c = rw c.in-There.is c.no_hop.ensures
+
+pub returns-in-One : goal.returns-in-One
+returns-in-One c = rw c.answer-1.given.1 refl
+
+pub returns-in-Two : goal.returns-in-Two
+returns-in-Two c = rw c.answer-in-Two-1.given.1 refl
