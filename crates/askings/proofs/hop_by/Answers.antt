@@ -25,45 +25,28 @@ an_end_closed-requires c =
 
 pub returns-then-not-assured : goal.returns-then-not-assured
 returns-then-not-assured c =
-    let test = c in
-    let two = test in
-    let looked = two in
-    by_closed (told_yes looked.steady.ensures two.if-not-steady.false) looked.if-n-ne-UNREFUSED.false (rw c.if-not-an_end_closed.true at test.an_end_closed.ensures) c.no_hop-then-not-assured.ensures
+    by_not_assured (told_yes c.steady.ensures c.if-not-steady.false) c.if-n-ne-UNREFUSED.false (rw c.if-not-an_end_closed.true at c.an_end_closed.ensures)
+    (told_no c.assured.ensures c.if-not-assured.true) c.no_hop-then-not-assured.ensures
 
 pub assured-requires : goal.assured-requires
 assured-requires c =
-    let none = c in
-    let pre = none.requires in
-    let z = none.if-n-ne-UNREFUSED.false in
+    let pre = c.requires in
+    let z = c.if-n-ne-UNREFUSED.false in
     record { fits = pre.fits z; home = pre.home z; on = pre.on z }
-
-pub returns-then-not-an_end_closed : goal.returns-then-not-an_end_closed
-returns-then-not-an_end_closed c =
-    let sure = c in
-    let three = sure in
-    let test = three in
-    let two = test in
-    let looked = two in
-    by_not_assured (told_yes looked.steady.ensures two.if-not-steady.false) looked.if-n-ne-UNREFUSED.false (rw three.if-not-an_end_closed.false at test.an_end_closed.ensures)
-    (told_no sure.assured.ensures c.if-not-assured.true) c.no_hop-2.ensures
 
 pub hop-answer-requires : goal.hop-answer-requires
 hop-answer-requires c =
-    let sure = c in
-    let two = sure in
-    let looked = two in
-    let none = looked in
     record {
-      fits = none.requires.fits none.if-n-ne-UNREFUSED.false;
-      stable = steady_stable (told_yes looked.steady.ensures two.if-not-steady.false);
-      assured = told_yes sure.assured.ensures c.if-not-assured.false;
+      fits = c.requires.fits c.if-n-ne-UNREFUSED.false;
+      stable = steady_stable (told_yes c.steady.ensures c.if-not-steady.false);
+      assured = told_yes c.assured.ensures c.if-not-assured.false;
     }
+
+pub returns-then-not-an_end_closed : goal.returns-then-not-an_end_closed
+returns-then-not-an_end_closed c =
+    by_told (told_yes c.steady.ensures c.if-not-steady.false) c.if-n-ne-UNREFUSED.false (told_yes c.assured.ensures c.if-not-assured.false)
+    c.hop-answer.ensures c.hops_named.ensures
 
 pub returns : goal.returns
 returns c =
-    let hop = c in
-    let four = hop in
-    let sure = four in
-    let two = sure in
-    let looked = two in
-    by_told (told_yes looked.steady.ensures two.if-not-steady.false) looked.if-n-ne-UNREFUSED.false (told_yes sure.assured.ensures four.if-not-assured.false) hop.hop-answer.ensures c.hops_named.ensures
+    by_closed (told_yes c.steady.ensures c.if-not-steady.false) c.if-n-ne-UNREFUSED.false (rw c.if-not-an_end_closed.false at c.an_end_closed.ensures) c.no_hop-2.ensures

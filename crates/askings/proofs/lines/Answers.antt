@@ -41,4 +41,4 @@ returns c =
     let test = two in
     let labelled = test in
     lines_told_lem labelled.label.ensures.sheet labelled.if-n-ne-UNREFUSED.false met.lines-met.result (rw two.if-an_end_closed.false at test.an_end_closed.ensures)
-    met.lines-met.ensures c.lines_told_lem.ensures
+    met.lines-met.ensures c.lines_told.ensures

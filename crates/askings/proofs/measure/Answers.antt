@@ -34,10 +34,10 @@ measure-requires c =
     let z = none.if-n-ne-UNREFUSED.false in
     record {
       fits = labelled_fits labelled.label.ensures.sheet (pre.first.stamped none.if-n-ne-UNREFUSED.false).sides;
-      east = pre.east-1 z;
-      south = pre.south-1 z;
-      west = pre.west-1 z;
-      north = pre.north-1 z;
+      east = pre.east z;
+      south = pre.south z;
+      west = pre.west z;
+      north = pre.north z;
     }
 
 pub returns : goal.returns
@@ -51,8 +51,8 @@ returns c =
     record {
       given = inr (λ f. f none.if-n-ne-UNREFUSED.false, refl);
       labels_after = labels_made (λ e. omega (arith, e.0)) sheet;
-      east_after = distances_filled refl (distance_sheet_same _ _ alike told.east-1);
-      south_after = distances_filled refl (distance_sheet_same _ _ alike told.south-1);
-      west_after = distances_filled refl (distance_sheet_same _ _ alike told.west-1);
-      north_after = distances_filled refl (distance_sheet_same _ _ alike told.north-1);
+      east_after = distances_filled refl (distance_sheet_same _ _ alike told.east);
+      south_after = distances_filled refl (distance_sheet_same _ _ alike told.south);
+      west_after = distances_filled refl (distance_sheet_same _ _ alike told.west);
+      north_after = distances_filled refl (distance_sheet_same _ _ alike told.north);
     }

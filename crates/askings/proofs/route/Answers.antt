@@ -10,9 +10,9 @@ use Rattle.askings.proofs.route.Goals as goal
 pub slice_bounds-result-end : goal.slice_bounds-result-end
 slice_bounds-result-end c =
     let d = c in
-    simp length-take (omega (arith, drove_within d.drive-drove.ensures, d.drive-drove.auto.1.1.1.1.1.1.1.1.1.0))
+    simp length-take (omega (arith, drove_within d.drive-drove.ensures, d.drive-drove.auto.route))
 
 pub returns : goal.returns
 returns c =
     let d = c in
-    record { leading = refl; route' = d.drive-drove.new.1.1.1.1.1.1.1.1.1.0; crossings = d.drive-drove.result.length; drove = d.drive-drove.ensures; part_is = refl }
+    record { leading = refl; route' = d.drive-drove.new.route; crossings = d.drive-drove.result.length; drove = d.drive-drove.ensures; part_is = refl }

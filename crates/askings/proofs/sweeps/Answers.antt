@@ -28,5 +28,5 @@ returns c =
       given = inr (λ f. f swept.if-n-ne-UNREFUSED.false, refl);
       labels_after = labels_made (λ e. omega (arith, e.0)) told.sheet;
       refused = λ f. absurd (f refl);
-      done = λ _. told.sweeps-sweeps;
+      done = λ _. told.sweeps;
     }

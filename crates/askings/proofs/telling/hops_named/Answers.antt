@@ -7,7 +7,7 @@ pub returns-in-There : goal.returns-in-There
 returns-in-There c = rw c.in-There.is c.no_hop.ensures
 
 pub returns-in-One : goal.returns-in-One
-returns-in-One c = rw c.answer-1.given.1 refl
+returns-in-One c = rw c.in-One.is refl
 
 pub returns-in-Two : goal.returns-in-Two
-returns-in-Two c = rw c.answer-in-Two-1.given.1 refl
+returns-in-Two c = rw c.in-Two.is refl

@@ -7,4 +7,4 @@ pub returns-in-No : goal.returns-in-No
 returns-in-No c = rw c.in-No.is c.no_lines_told.ensures
 
 pub returns-in-Yes : goal.returns-in-Yes
-returns-in-Yes c = rw c.met-1.given.1 refl
+returns-in-Yes c = rw c.in-Yes.is refl
