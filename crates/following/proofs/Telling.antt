@@ -8,7 +8,7 @@ use Prim.Native.Nat.{ℕ, ◌+◌, ◌*◌, ◌-◌, ◌<◌, ◌≤◌}
 use native.Mathlib.Omega.{arith}
 use native.Mathlib.Decide.{ℕ_discrete}
 use lib.ListN.{length, get_or, take, drop, length-append, length-drop, take-append-drop}
-use lib.Seq.{take-length, take_at, length-take-le, drop-append-le, drop-drop}
+use lib.Seq.{length-take-le, drop-append-le, drop-drop}
 use Rattle.field.specs.Map.{Sides, most_markers}
 use Rattle.field.specs.Refusals.{no_slot, bad_letters, bad_header, short_raster, bad_size}
 use Rattle.mapfile.specs.Header.{Header}
@@ -85,21 +85,6 @@ cut_one (a ∷ []) n m = (λ e. let p : a ≡ 80 = e in the_first (cc), first)
     first (nothing e) = absurd (omega (arith, ap length e))
     first (the_first e) = cc
 cut_one (a ∷ b ∷ l) n m = absurd (omega arith)
-
--- The bytes and the probe, copied.
-pub joined : (s p xs ys rest z z' : List ℕ) → xs ≡ take (length s) s ++ z → ys ≡ take (length p) p ++ z'
-    → take (length s + length p) (take (length s) xs ++ (ys ++ rest)) ≡ s ++ p
-joined s p xs ys rest z z' e f =
-    ap (take (length s + length p)) whole ∙ take_at (s ++ p) (z' ++ rest) (length s + length p) (length-append s p)
-  where
-    front : take (length s) xs ≡ s
-    front = ap (take (length s)) (e ∙ ap (λ (l : List ℕ). l ++ z) (take-length s)) ∙ take_at s z (length s) refl
-
-    back : ys ≡ p ++ z'
-    back = f ∙ ap (λ (l : List ℕ). l ++ z') (take-length p)
-
-    whole : take (length s) xs ++ (ys ++ rest) ≡ (s ++ p) ++ (z' ++ rest)
-    whole = rw (front, back) (simp append_assoc)
 
 -- The header.
 pub header_none : {l : List ℕ} → ((w h : ℕ) (body : List ℕ) → ¬ Header (w ∷ h ∷ []) l body) → ¬ HasHeader l

@@ -47,8 +47,8 @@ fn join(src: &[u8], tried: &mut [u8])
     ensures { Joined src.now tried.new }
 {
     let n = src.len();
-    bytes::copy(src, tried);
-    bytes::copy(b"\n\n1\n1\n", &mut tried[n..]);
+    tried[..n].copy_from_slice(src);
+    tried[n..n + 6].copy_from_slice(b"\n\n1\n1\n");
 }
 
 // Whether a header that is cut short can still become one: if any bytes that follow make it one,

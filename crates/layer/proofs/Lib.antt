@@ -6,6 +6,4 @@ mod Listing
 mod Joining
 mod LabelAnswers
 mod DriveAnswers
-mod Asking
-mod Walking
 mod Mornings

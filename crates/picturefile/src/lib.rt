@@ -2,9 +2,8 @@
 // specs/; reading and writing are `picturing`.
 #![tactic(auto)]
 
-
 // The two kinds of picture: the old one of one byte a crossing, and that of two bytes.
-#[derive(Drop)]
+#[derive(Clone, Copy)]
 pub enum Depth {
     OneByte,
     TwoBytes,

@@ -1,6 +1,6 @@
 -- The pieces that the code writes are the whole file of the promise, and its length is the one that
 -- the code works out first.
-use mathlib.Core.Path.{◌≡◌, refl, sym, ap, ◌∙◌}
+use mathlib.Core.Path.{◌≡◌, refl, ◌∙◌}
 use mathlib.Core.List.{List, [], ◌∷◌, ◌++◌, append_assoc}
 use Prim.Native.Nat.{ℕ, ◌+◌, ◌*◌, ◌<◌}
 use native.Mathlib.Omega.{arith}
@@ -15,7 +15,7 @@ use Rattle.writer.specs.FileLaws.{header_length, side_plain}
 use Rattle.picturefile.specs.Picture.{picture_letters}
 use Rattle.picturefile.specs.Written.{PictureWritten}
 use Rattle.picturing.specs.Rasters.{raster_of}
-use Rattle.picturing.specs.RasterLaws.{raster_length, raster_drawn, raster_small}
+use Rattle.picturing.specs.RasterLaws.{raster_drawn, raster_small}
 
 -- The largest value has five digits.
 largest_digits : DigitCount largest_value 5

@@ -8,7 +8,7 @@ use Rattle.std.proofs.Math.Decide.{dec_lt, ℕ_discrete}
 use Rattle.std.proofs.Math.Nat.{mul_assoc}
 use Rattle.std.proofs.Math.ListN.{get_or, drop, get_or-eq_default}
 use Rattle.std.proofs.Math.Seq.{get_or-drop}
-use Rattle.field.specs.Map.{Sides, On, number, at}
+use Rattle.field.specs.Map.{On, number, at}
 use Rattle.field.specs.Workings.Sheet.{Crossing, crossing}
 use Rattle.mapfile.specs.File.{raster_place}
 use Rattle.packing.specs.Packing.{pieces}

@@ -1,7 +1,7 @@
 -- The rows of a raster, the southmost first, are the sheet of it: a crossing's byte stands as far
 -- along its row.
 use Rattle.std.specs.Prelude.{◌≡◌, List, ℕ, ◌+◌, ◌*◌, ◌-◌, ◌<◌, ◌≤◌, length, get_or, take, drop}
-use Rattle.std.proofs.Common.{ap, ◌∙◌, arith}
+use Rattle.std.proofs.Common.{◌∙◌, arith}
 use Rattle.std.proofs.Math.ListN.{length-drop}
 use Rattle.std.proofs.Math.Seq.{length-take-le, get_or-take, get_or-drop}
 use Rattle.field.specs.Map.{On, at}

@@ -1,12 +1,7 @@
 -- `pack` meets its contract: after j turns the byte is the first j bits, packed, and below 2 ^ j.
-use Prim.Native.Nat.{ℕ, ◌+◌, ◌*◌, ◌-◌, ◌^◌, ◌≤◌, ◌<◌}
-use native.Mathlib.Omega.{arith}
-use native.Mathlib.Numerals.{add-one}
-use mathlib.Core.Path.{◌≡◌, refl, ap, ◌∙◌}
-use mathlib.Core.List.{List}
-use lib.Pow.{pow_mono}
-use Rattle.packing.specs.Packing.{packed, rock_bit, byte_of}
-use Rattle.packing.specs.PackingLaws.{packed_lt, rock_bit_small}
+use Prim.Native.Nat.{◌-◌, ◌≤◌}
+use mathlib.Core.Path.{◌≡◌}
+use Rattle.packing.specs.Packing.{packed, rock_bit}
 use Rattle.packing.proofs.pack.Given as goal
 
 abbrev pub invariant-loop-j : goal.invariant-loop-j

@@ -1,5 +1,4 @@
 -- `rock_bit` meets its contract: each of the three ways out is a case of the bit.
-use borrow.Author.Rules.{rules}
 use native.Mathlib.Omega.{arith}
 use Prim.Native.Nat.{◌+◌}
 use mathlib.Core.Path.{◌≡◌, sym}

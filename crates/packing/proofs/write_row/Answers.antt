@@ -1,6 +1,6 @@
 -- `write_row` meets its contract: after k turns the first k bytes of the row stand at the front of
 -- its part.
-use Prim.Native.Nat.{ℕ, ◌*◌, ◌-◌}
+use Prim.Native.Nat.{ℕ, ◌*◌}
 use native.Mathlib.Omega.{arith}
 use mathlib.Core.Path.{◌≡◌, ap, ◌∙◌}
 use mathlib.Core.List.{List, [], ◌∷◌}
@@ -8,7 +8,7 @@ use lib.ListN.{length}
 use Rattle.mapfile.specs.Raster.{row_bytes}
 use Rattle.packing.specs.Packing.{byte_of, pieces, row_of}
 use Rattle.packing.specs.PackingLaws.{pieces_more}
-use Rattle.packing.proofs.Filling.{Filled, filled_none, filled_length, filled_all, filled_byte}
+use Rattle.packing.proofs.Filling.{filled_none, filled_length, filled_all, filled_byte}
 use Rattle.packing.proofs.write_row.Goals as goal
 
 pub overflow_mul-from : goal.overflow_mul-from

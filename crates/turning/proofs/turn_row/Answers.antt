@@ -1,0 +1,45 @@
+-- `turn_row` meets its contract: after x turns the first x bytes of the raster stand at the front
+-- of the part.
+use Prim.Native.Nat.{ℕ}
+use native.Mathlib.Omega.{arith}
+use mathlib.Core.Path.{◌≡◌, refl, ap, ◌∙◌}
+use lib.ListN.{get_or, take}
+use Rattle.packing.proofs.Filling.{filled_none, filled_as, filled_length, filled_all, filled_byte, take_more}
+use Rattle.turning.proofs.turn_row.Goals as goal
+
+pub loop-x-init : goal.loop-x-init
+loop-x-init c = (omega arith, filled_none _)
+
+pub bounds-raster-x : goal.bounds-raster-x
+bounds-raster-x c = omega (arith, c.requires.whole)
+
+pub bounds-part-x : goal.bounds-part-x
+bounds-part-x c =
+    let l = c.loop-x in
+    omega (arith, filled_length _ l.x _ l.part l.invariant.1, c.requires.room)
+
+pub overflow_step-x : goal.overflow_step-x
+overflow_step-x c = omega arith
+
+pub loop-x-smaller : goal.loop-x-smaller
+loop-x-smaller c = omega arith
+
+pub loop-x-preserved : goal.loop-x-preserved
+loop-x-preserved c =
+    let a = c.args in
+    let p = c.requires in
+    let l = c.loop-x in
+    let put = filled_byte (take l.x a.raster.now) l.x a.part.now l.part l.invariant.1 (get_or a.raster.now l.x 0) (omega (arith, p.room)) in
+    (omega arith, filled_as _ _ _ _ a.part.now _ put (take_more a.raster.now l.x (omega (arith, p.whole))) refl)
+
+pub shape_of-part : goal.shape_of-part
+shape_of-part c =
+    let l = c.loop-x in
+    filled_length _ l.x _ l.part l.invariant.1
+
+pub returns : goal.returns
+returns c =
+    let a = c.args in
+    let l = c.loop-x in
+    let all : l.x ≡ a.w = omega (arith, l.invariant.0) in
+    filled_all _ l.x a.part.now l.part l.invariant.1 (omega (arith, c.requires.room)) ∙ ap (λ (n : ℕ). take n a.raster.now) all
