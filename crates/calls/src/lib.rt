@@ -6,7 +6,7 @@
 
 // The new count of a list, or the refusal.
 #[repr(C)]
-#[derive(Drop)]
+#[derive(Clone, Copy)]
 pub struct Counted {
     pub refusal: u8,
     pub count: usize,
@@ -14,7 +14,7 @@ pub struct Counted {
 
 // The numbers of rocks' crossings, shut crossings and groups, or the refusal.
 #[repr(C)]
-#[derive(Drop)]
+#[derive(Clone, Copy)]
 pub struct Labelling {
     pub refusal: u8,
     pub rocks: usize,
@@ -24,7 +24,7 @@ pub struct Labelling {
 
 // The number of sweeps that changed something, or the refusal.
 #[repr(C)]
-#[derive(Drop)]
+#[derive(Clone, Copy)]
 pub struct Swept {
     pub refusal: u8,
     pub sweeps: usize,
@@ -32,7 +32,7 @@ pub struct Swept {
 
 // The four distances of a crossing, east, south, west, north, or the refusal.
 #[repr(C)]
-#[derive(Drop)]
+#[derive(Clone, Copy)]
 pub struct Four {
     pub refusal: u8,
     pub four: [u16; 4],
@@ -40,7 +40,7 @@ pub struct Four {
 
 // Whether home is assured, or the refusal.
 #[repr(C)]
-#[derive(Drop)]
+#[derive(Clone, Copy)]
 pub struct Assurance {
     pub refusal: u8,
     pub assured: bool,
@@ -49,7 +49,7 @@ pub struct Assurance {
 // How many hops homeward are permitted, none at home, and where they lead, the east-west one first;
 // or the refusal.
 #[repr(C)]
-#[derive(Drop)]
+#[derive(Clone, Copy)]
 pub struct Homeward {
     pub refusal: u8,
     pub hops: u8,
@@ -61,7 +61,7 @@ pub struct Homeward {
 
 // How many crossings of the route were filled, or the refusal.
 #[repr(C)]
-#[derive(Drop)]
+#[derive(Clone, Copy)]
 pub struct Drove {
     pub refusal: u8,
     pub length: usize,
@@ -69,7 +69,7 @@ pub struct Drove {
 
 // Width, height and number of markers of a map that was read, or the refusal.
 #[repr(C)]
-#[derive(Drop)]
+#[derive(Clone, Copy)]
 pub struct ReadMap {
     pub refusal: u8,
     pub width: usize,
@@ -79,7 +79,7 @@ pub struct ReadMap {
 
 // How many bytes were written, or the refusal.
 #[repr(C)]
-#[derive(Drop)]
+#[derive(Clone, Copy)]
 pub struct WroteMap {
     pub refusal: u8,
     pub bytes: usize,
@@ -88,7 +88,7 @@ pub struct WroteMap {
 // What is found of a drawn list: why it is at fault and the position of the first crossing at
 // fault, both 0 for an accepted list; or the refusal.
 #[repr(C)]
-#[derive(Drop)]
+#[derive(Clone, Copy)]
 pub struct Checked {
     pub refusal: u8,
     pub reason: u8,
@@ -97,7 +97,7 @@ pub struct Checked {
 
 // How many bytes of a picture were written, or the refusal.
 #[repr(C)]
-#[derive(Drop)]
+#[derive(Clone, Copy)]
 pub struct SheetWritten {
     pub refusal: u8,
     pub bytes: usize,
@@ -105,7 +105,7 @@ pub struct SheetWritten {
 
 // Width and height of a picture that was read, or the refusal.
 #[repr(C)]
-#[derive(Drop)]
+#[derive(Clone, Copy)]
 pub struct SheetRead {
     pub refusal: u8,
     pub width: usize,
@@ -115,7 +115,7 @@ pub struct SheetRead {
 // Whether two places have crossing lines, and if so the westmost column and the southmost row; if
 // not, or with a refusal, zeros.
 #[repr(C)]
-#[derive(Drop)]
+#[derive(Clone, Copy)]
 pub struct CrossingLines {
     pub refusal: u8,
     pub yes: bool,

@@ -20,7 +20,7 @@ const OUTPUT: usize = TEXT + ROOM;
 // Where the program stands: the run so far; the bytes at hand, which stand in the input buffer from
 // `from` up to `held`; whether the input ends there; how much text is gathered; and whether to go
 // on.
-#[derive(Drop)]
+#[derive(Clone, Copy)]
 struct State {
     run: Run,
     from: usize,

@@ -18,7 +18,7 @@ pub(crate) enum Way {
 }
 
 // A crossing.
-#[derive(Drop)]
+#[derive(Clone, Copy)]
 struct Place {
     x: usize,
     y: usize,

@@ -11,7 +11,7 @@ use sheets::{hop, number_of};
 const TOP_BIT: u32 = 2147483648;
 
 // Where the chooser goes, and the state after its choice.
-#[derive(Drop)]
+#[derive(Clone, Copy)]
 pub struct Choice {
     pub x: usize,
     pub y: usize,

@@ -13,7 +13,7 @@ use regions::Found;
 // What asking for a drive makes: nothing, an end being closed (8), there being no shortest drive
 // (9) or the route too short (10); or so many crossings at the route's front, and the state after
 // it.
-#[derive(Drop)]
+#[derive(Clone, Copy)]
 pub enum Made {
     Closed,
     NoDrive,

@@ -42,7 +42,7 @@ pub struct Marker {
 
 // What the checker finds of a drawn list: why it is refused, and the position of the first crossing
 // at fault; both are 0 for a list that is accepted.
-#[derive(Drop)]
+#[derive(Clone, Copy)]
 pub struct Finding {
     pub reason: u8,
     pub position: usize,
@@ -50,7 +50,7 @@ pub struct Finding {
 
 // What is found of one number of a drawn list: the first reason that applies to it; or none, and
 // the crossing.
-#[derive(Drop)]
+#[derive(Clone, Copy)]
 pub struct Step {
     pub reason: u8,
     pub x: usize,
@@ -69,7 +69,7 @@ pub enum Depot {
 // How well a depot is placed (Req 05): "open crossings; those for which the depot is assured; those
 // not assured that have a shortest drive; those with none". The numbers are wide enough for the
 // sums over every map of a run.
-#[derive(Drop)]
+#[derive(Clone, Copy)]
 pub struct Placing {
     pub opens: u64,
     pub assured: u64,

@@ -17,7 +17,7 @@ use mapfile::MOST_BYTES;
 
 // What the bytes at hand begin with: a map, by its width and height and how many bytes it has; the
 // number of the refusal; a map that is too long; or more bytes are needed to tell.
-#[derive(Drop)]
+#[derive(Clone, Copy)]
 pub enum First {
     Map(usize, usize, usize),
     Refused(u8),

@@ -13,21 +13,21 @@ ghost use Rattle.header.specs.Letters.{SameTwo};
 const MOST_DIGITS: usize = 9;
 
 // Where a separator ends; or that there is none.
-#[derive(Drop)]
+#[derive(Clone, Copy)]
 enum Gap {
     Ends(usize),
     Missing,
 }
 
 // A number and where it ends; or that there is none.
-#[derive(Drop)]
+#[derive(Clone, Copy)]
 enum Numeral {
     Value(usize, usize),
     Missing,
 }
 
 // Where the raster begins; or that there is no header.
-#[derive(Drop)]
+#[derive(Clone, Copy)]
 pub enum Head {
     Body(usize),
     Missing,

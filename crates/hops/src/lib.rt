@@ -11,7 +11,7 @@ ghost use Rattle.hops.specs.Asking.{AskedRow, AskedColumn};
 use sheets::mark;
 
 // The answer names every permitted hop, the east-west one first; at home it is There.
-#[derive(Drop)]
+#[derive(Clone, Copy)]
 pub enum Answer {
     There,
     One(usize, usize),

@@ -89,7 +89,7 @@ pub fn lowest(
 
 // What is found of the map, the list and an id, in this order: the size is bad, the list is bad, or
 // the id is in use or not.
-#[derive(Drop)]
+#[derive(Clone, Copy)]
 pub enum Sought {
     BadSize,
     BadList,

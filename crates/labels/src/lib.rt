@@ -19,7 +19,7 @@ const FEW: usize = 16;
 const SOME: usize = 64;
 
 // What labelling hands back: the numbers of rocks' crossings, shut crossings and groups.
-#[derive(Drop)]
+#[derive(Clone, Copy)]
 pub struct Labelled {
     pub rocks: usize,
     pub shut: usize,

@@ -13,7 +13,7 @@ use search::{between, first_open};
 use sheets::number_of;
 
 // What the test says: no, or yes with the westmost open column and the southmost open row.
-#[derive(Drop)]
+#[derive(Clone, Copy)]
 pub enum Met {
     No,
     Yes(usize, usize),
@@ -43,7 +43,7 @@ pub fn lines(s: &[u8], w: usize, h: usize, sx: usize, sy: usize, dx: usize, dy: 
 // What asking for the drive by way of the meeting crossing makes: nothing, there being no such
 // column and row (19) or the route too short (10); or so many crossings at the route's front, and
 // the state after it.
-#[derive(Drop)]
+#[derive(Clone, Copy)]
 pub enum Joined {
     NoLines,
     Short,

@@ -5,7 +5,7 @@ ghost use Rattle.meetings.specs.Search.{OnAxis, SpanOf, Laid, Bare, LaidOut, Fir
 
 // The places from the lower of two to the higher on one axis, both included: where they begin, and
 // how many there are.
-#[derive(Drop)]
+#[derive(Clone, Copy)]
 pub struct Span {
     pub low: usize,
     pub many: usize,

@@ -20,7 +20,7 @@ pub const MOST_MAPS: usize = 65535;
 pub const ROOM: usize = 4 * 4 * printing::NUMBER;
 
 // A run so far: how many maps were read, and the sums over all their lines.
-#[derive(Drop)]
+#[derive(Clone, Copy)]
 pub struct Run {
     pub maps: usize,
     pub sums: Placing,
@@ -29,7 +29,7 @@ pub struct Run {
 // What a step of a run finds: a map, with how many bytes it has, where its lines end in the output
 // and the run after it; the end of the run, with where its last line ends; or that it takes more
 // bytes to tell.
-#[derive(Drop)]
+#[derive(Clone, Copy)]
 pub enum Next {
     Map(usize, usize, Run),
     Last(usize),

@@ -13,7 +13,7 @@ use field::{Depot, MOST_CROSSINGS, Placing};
 use printing::put_number;
 
 // Where the text so far ends in the output, and the sums with its lines.
-#[derive(Drop)]
+#[derive(Clone, Copy)]
 pub struct Told {
     pub end: usize,
     pub sums: Placing,

@@ -17,14 +17,14 @@ use raster::Judged;
 
 // What reading a file finds: a map's width, height and number of rocks; or the number of the
 // refusal.
-#[derive(Drop)]
+#[derive(Clone, Copy)]
 pub enum Reading {
     Map(usize, usize, usize),
     Refused(u8),
 }
 
 // Which format the file's first two bytes name.
-#[derive(Drop)]
+#[derive(Clone, Copy)]
 enum Letters {
     Plain,
     Raw,

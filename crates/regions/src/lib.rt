@@ -8,7 +8,7 @@ ghost use Rattle.regions.specs.Promise.{MayFind, Regioned};
 ghost use Rattle.regions.specs.Reaching.{Reached};
 
 // What asking for the region finds: an end closed (8), no shortest drive (9), or some.
-#[derive(Drop)]
+#[derive(Clone, Copy)]
 pub enum Found {
     EndClosed,
     Nowhere,

@@ -9,7 +9,7 @@ ghost use Rattle.writer.specs.Promise.{Writes};
 ghost use Rattle.writer.specs.Digits.{DigitCount, digits_of, two_of, header_of};
 
 // What writing comes to: so many bytes, or an output too short for the whole file.
-#[derive(Drop)]
+#[derive(Clone, Copy)]
 pub enum Wrote {
     Bytes(usize),
     Short,

@@ -1,5 +1,5 @@
--- `gap_end` meets its contract: the two returns are the two cases of `gap_end`, and the place is not
--- 0 where a blank was seen before it.
+-- `gap_end` meets its contract: the two returns are the two cases of `gap_end`, and the place
+-- is not 0 where a blank was seen before it.
 use mathlib.Core.Path.{sym}
 use native.Mathlib.Omega.{arith}
 use Rattle.header.proofs.Skipping.{gap_at_lem}

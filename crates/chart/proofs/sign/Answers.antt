@@ -2,8 +2,7 @@
 use Prim.Native.Nat.{ℕ, zero, suc}
 use mathlib.Core.Path.{◌≡◌, refl, sym, ap}
 use Rattle.chart.specs.Drawing.{sign_of}
-use Rattle.chart.proofs.sign.Statement.{statement}
-use Rattle.chart.proofs.sign.Tie as tie
+use Rattle.chart.proofs.sign.Goals as goal
 
 sign-other : (b : ℕ) → ¬ (b ≡ 0) → ¬ (b ≡ 1) → 111 ≡ sign_of b
 unfolding sign_of
@@ -11,16 +10,13 @@ sign-other zero p q = absurd (p refl)
 sign-other (suc zero) p q = absurd (q refl)
 sign-other (suc (suc b)) p q = refl
 
-returns : tie.Need-returns
+pub returns-then-label-eq0 : goal.returns-then-label-eq0
 unfolding sign_of
-returns c = sym (ap sign_of c.if1.true)
+returns-then-label-eq0 c = sym (ap sign_of c.if-label-eq0.true)
 
-returns-2 : tie.Need-returns-2
+pub returns-then-label-eq1 : goal.returns-then-label-eq1
 unfolding sign_of
-returns-2 c = sym (ap sign_of c.if2.true)
+returns-then-label-eq1 c = sym (ap sign_of c.if-label-eq1.true)
 
-returns-3 : tie.Need-returns-3
-returns-3 c = sign-other _ c.before.if1.false c.if2.false
-
-pub sign-spec : {M : Type 1} → statement M
-sign-spec = tie.close (tie.spec returns returns-2 returns-3)
+pub returns : goal.returns
+returns c = sign-other _ c.if-label-eq0.false c.if-label-eq1.false
