@@ -1,7 +1,6 @@
 -- Laws that the proofs of the code cite.
 mod Tables
 mod Seeking
-mod Findings
 mod Listing
 mod Joining
 mod LabelAnswers

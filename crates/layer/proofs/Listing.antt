@@ -6,13 +6,8 @@ use mathlib.Core.Logic.{inl}
 use Prim.Native.Nat.{ℕ, ◌<◌, ◌^◌}
 use native.Mathlib.Omega.{arith}
 use native.Mathlib.Decide.{dec_lt}
-use seplogic.Ra.Ura.{Ura}
 use lib.Dec.{T, lit<}
 use lib.ListN.{length}
-use mir.Val.{Val, has_ty, WT}
-use types.Logic.{Logic}
-use denote.Laws.{Is}
-use denote.Struct.Laws as LL
 use Rattle.field.specs.declared.Marker.{Marker}
 use Rattle.markers.specs.List.{InUse}
 use Rattle.markers.specs.Promise.{marker}
@@ -22,28 +17,12 @@ use Rattle.calls.specs.Rules.{LentMap, OnIt, Gives}
 use Rattle.calls.specs.RuleLaws.{None, gives_none, holds, sides_hold, on_holds, formed_holds}
 use Rattle.calls.specs.Calls.{EnterCall, ClearCall}
 use Rattle.calls.specs.declared.Counted.{Counted}
-use Rattle.calls.specs.contracts.Counted as R
-use Rattle.calls.proofs.Counted.TheLaws as R'
 use Rattle.field.specs.Limits.{side_is}
 use Rattle.layer.proofs.Seeking.{rising_of}
 
 -- An answer: the refusal, and the new count.
 abbrev pub counted : ℕ → ℕ → Counted
 counted n count = record { refusal = n; count = count }
-
--- As a machine value, and that a local of its type holds it.
-abbrev pub counted_value : ℕ → ℕ → Val
-counted_value n count = LL.val R.the_type R'.the_laws (counted n count)
-
-abbrev pub IsCounted : ℕ → ℕ → Type 0
-IsCounted n count = Is R.the_row (counted n count) (counted_value n count ∷ [])
-
-pub counted_is : (n count : ℕ) → n < 2 ^ 8 → count < 2 ^ 64 → IsCounted n count
-counted_is n count f k = LL.owes R.the_type R'.the_laws (counted n count) ((refl, f), ((refl, k), tt))
-
-pub counted_typed : {M : Type 1} {𝓤 : Ura M} (𝓛 : Logic 𝓤) (n count : ℕ) → IsCounted n count
-    → T (has_ty R'.mir (counted_value n count)) × WT (counted_value n count)
-counted_typed 𝓛 n count is = ((LL.lawful R.the_type R'.the_laws 𝓛).typed (counted n count) (counted_value n count ∷ []) is).0
 
 module _ (m : LentMap) (id x y height n : ℕ) (g : Gives (Rules.enter_table m id x y) n) where
   pub enter_refused : ¬ (n ≡ 0) → EnterCall m id x y height m.list (counted n 0)

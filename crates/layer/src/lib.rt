@@ -4,8 +4,8 @@
 #![tactic(auto)]
 
 pub mod files; // files.rt: the two map-file calls
-mod morning; // morning.rt: the hop by a morning sheet
-mod pictures; // pictures.rt: the two picture calls
+pub mod morning; // morning.rt: the hop by a morning sheet
+pub mod pictures; // pictures.rt: the two picture calls
 mod preparing; // preparing.rt: the first part of every asking
 pub mod route; // route.rt: the drive, of which a part of the route is handed back
 
@@ -43,8 +43,7 @@ fn seek(list: &[Marker], count: usize, w: usize, h: usize, id: u16) -> Sought
 }
 
 // Enters a marker, of any height. Hands back the new count, or the refusal: 1, 3, 4, 5 or 7.
-#[unsafe(no_mangle)]
-pub extern "C" fn bodkin_enter(
+pub fn bodkin_enter(
     list: &mut [Marker],
     count: usize,
     w: usize,
@@ -73,14 +72,7 @@ pub extern "C" fn bodkin_enter(
 }
 
 // Clears the marker with this id. Hands back the new count, or the refusal: 1, 3 or 6.
-#[unsafe(no_mangle)]
-pub extern "C" fn bodkin_clear(
-    list: &mut [Marker],
-    count: usize,
-    w: usize,
-    h: usize,
-    id: u16,
-) -> Counted
+pub fn bodkin_clear(list: &mut [Marker], count: usize, w: usize, h: usize, id: u16) -> Counted
     ensures { ClearCall (lent_list list.old count w h) id list.new result }
 {
     let found = seek(list, count, w, h, id);
@@ -100,8 +92,7 @@ pub extern "C" fn bodkin_clear(
 
 // Labels the map. Hands back the numbers of rocks' crossings, shut crossings and groups, or the
 // refusal: 1, 2 or 3.
-#[unsafe(no_mangle)]
-pub extern "C" fn bodkin_label(
+pub fn bodkin_label(
     list: &[Marker],
     count: usize,
     w: usize,
@@ -119,8 +110,7 @@ pub extern "C" fn bodkin_label(
 
 // Labels the map sweep by sweep. Hands back the number of sweeps that changed something, or the
 // refusal: 1, 2 or 3.
-#[unsafe(no_mangle)]
-pub extern "C" fn bodkin_sweeps(
+pub fn bodkin_sweeps(
     list: &[Marker],
     count: usize,
     w: usize,
@@ -137,8 +127,7 @@ pub extern "C" fn bodkin_sweeps(
 }
 
 // The four distances of (x, y), east, south, west, north, or the refusal: 1, 2, 3 or 4.
-#[unsafe(no_mangle)]
-pub extern "C" fn bodkin_distances(
+pub fn bodkin_distances(
     list: &[Marker],
     count: usize,
     w: usize,
@@ -158,8 +147,7 @@ pub extern "C" fn bodkin_distances(
 
 // The distances of the whole map, into one lent sheet for each way. Answers the refusal, 1, 2 or 3,
 // or 0.
-#[unsafe(no_mangle)]
-pub extern "C" fn bodkin_measure(
+pub fn bodkin_measure(
     list: &[Marker],
     count: usize,
     w: usize,
@@ -181,8 +169,7 @@ pub extern "C" fn bodkin_measure(
 }
 
 // Whether home (hx, hy) is assured for (x, y), or the refusal: 1, 2, 3, 4 or 8.
-#[unsafe(no_mangle)]
-pub extern "C" fn bodkin_assured(
+pub fn bodkin_assured(
     list: &[Marker],
     count: usize,
     w: usize,
@@ -204,8 +191,7 @@ pub extern "C" fn bodkin_assured(
 
 // Every permitted hop from (x, y) towards home (hx, hy), none at home, or the refusal: 1, 2, 3, 4,
 // 8 or 11.
-#[unsafe(no_mangle)]
-pub extern "C" fn bodkin_hop(
+pub fn bodkin_hop(
     list: &[Marker],
     count: usize,
     w: usize,
@@ -227,8 +213,7 @@ pub extern "C" fn bodkin_hop(
 
 // The crossings on at least one shortest drive from (sx, sy) to (dx, dy). Answers the refusal, 1,
 // 2, 3, 4, 8 or 9, or 0.
-#[unsafe(no_mangle)]
-pub extern "C" fn bodkin_region(
+pub fn bodkin_region(
     list: &[Marker],
     count: usize,
     w: usize,
@@ -252,8 +237,7 @@ pub extern "C" fn bodkin_region(
 
 // A shortest drive from (sx, sy) to (dx, dy), drawn from the lent state, at the front of the lent
 // route. Hands back how many crossings it has, or the refusal: 1, 2, 3, 4, 8, 9 or 10.
-#[unsafe(no_mangle)]
-pub extern "C" fn bodkin_drive(
+pub fn bodkin_drive(
     list: &[Marker],
     count: usize,
     w: usize,
@@ -280,8 +264,7 @@ pub extern "C" fn bodkin_drive(
 // Checks a drawn list of crossing numbers against the shortest drives from (sx, sy) to (dx, dy).
 // Hands back why it is at fault and the position of the first crossing at fault, both 0 where it is
 // accepted, or the refusal: 1, 2, 3, 4 or 8.
-#[unsafe(no_mangle)]
-pub extern "C" fn bodkin_check(
+pub fn bodkin_check(
     list: &[Marker],
     count: usize,
     w: usize,
@@ -305,8 +288,7 @@ pub extern "C" fn bodkin_check(
 // Whether some column and some row between (sx, sy) and (dx, dy) are open throughout the rectangle
 // that they span. Hands back the westmost such column and the southmost such row, zeros beside a
 // no, or the refusal: 1, 2, 3, 4 or 8.
-#[unsafe(no_mangle)]
-pub extern "C" fn bodkin_lines(
+pub fn bodkin_lines(
     list: &[Marker],
     count: usize,
     w: usize,
@@ -329,8 +311,7 @@ pub extern "C" fn bodkin_lines(
 // The drive from (sx, sy) to (dx, dy) by way of the crossing where that column and that row meet,
 // drawn from the lent state, at the front of the lent route. Hands back how many crossings it has,
 // or the refusal: 1, 2, 3, 4, 8, 19 or 10, in this order.
-#[unsafe(no_mangle)]
-pub extern "C" fn bodkin_lines_drive(
+pub fn bodkin_lines_drive(
     list: &[Marker],
     count: usize,
     w: usize,

@@ -39,8 +39,7 @@ fn look_at(
 
 // Every permitted hop of a cart of this clearance from (x, y) towards home (hx, hy) by a morning
 // sheet, none at home, or the refusal: 1, 2, 3, 4, 20, 8 or 11, in this order.
-#[unsafe(no_mangle)]
-pub extern "C" fn bodkin_hop_by(
+pub fn bodkin_hop_by(
     list: &[Marker],
     count: usize,
     w: usize,

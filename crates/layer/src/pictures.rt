@@ -6,13 +6,7 @@ use calls::{SheetRead, SheetWritten};
 
 // Writes a sheet as a picture, P5, two bytes a crossing. Hands back the number of bytes written, or
 // the refusal: 1, 2 or 17. Bytes past the end stay, and a refusal changes none.
-#[unsafe(no_mangle)]
-pub extern "C" fn bodkin_write_sheet(
-    sheet: &[u16],
-    w: usize,
-    h: usize,
-    out: &mut [u8],
-) -> SheetWritten
+pub fn bodkin_write_sheet(sheet: &[u16], w: usize, h: usize, out: &mut [u8]) -> SheetWritten
     ensures { WriteSheetCall sheet.now w h out.old out.new result }
 {
     picturing::write(sheet, w, h, out)
@@ -21,8 +15,7 @@ pub extern "C" fn bodkin_write_sheet(
 // Reads a picture into a sheet of its size, by crossing number: one of two bytes a crossing, or an
 // old one of one byte. Hands back width and height, or the refusal: 12, 13, 1, 18, 2, 14 or 15,
 // which changes no number of the sheet.
-#[unsafe(no_mangle)]
-pub extern "C" fn bodkin_read_sheet(src: &[u8], sheet: &mut [u16]) -> SheetRead
+pub fn bodkin_read_sheet(src: &[u8], sheet: &mut [u16]) -> SheetRead
     ensures { ReadSheetCall src.now sheet.old sheet.new result }
 {
     picturing::read(src, sheet)
