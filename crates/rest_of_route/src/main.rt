@@ -10,14 +10,16 @@ ghost use Rattle.calls.specs.Calls.{RouteCall};
 
 use field::{Marker, TALLEST};
 
+// The descriptor that every program is started with for what it prints.
+const STDOUT: i32 = 1;
+
 // The buffer's slots, and what they hold beforehand.
 const SLOTS: usize = 8;
 
 const OLD: u16 = 0xabcd;
 
 // The drive on a map with one rock, for a cart of no clearance. The list is a local array, and only
-// this function lends it: one that lends markers is walked by hand. The part of the route is handed
-// on.
+// this function lends it. The part of the route is handed on.
 fn drive<'a>(
     rock: Marker,
     w: usize,
@@ -55,7 +57,7 @@ fn print(n: u32) {
         digits[(n % 16) as usize],
         b' ',
     ];
-    io::write_all(libc::STDOUT_FILENO, &text);
+    io::write_all(STDOUT, &text);
 }
 
 // Asks for a drive from (0, 0) on a map 4 by 3 with a rock on (2, 0), into the first `lent` slots
@@ -99,7 +101,7 @@ fn ask(dx: usize, dy: usize, lent: usize)
         print(wide(route[i]));
         i += 1;
     }
-    io::write_all(libc::STDOUT_FILENO, b"\n");
+    io::write_all(STDOUT, b"\n");
 }
 
 // Drives of four crossings into room to spare and into exactly as much, then refusals 10, 9, 8 and
