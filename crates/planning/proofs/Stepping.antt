@@ -1,27 +1,25 @@
 -- What the first map of the bytes at hand says, told as a step of the run.
 use mathlib.Core.Path.{◌≡◌, refl, ap}
-use mathlib.Core.Bool.{Bool, true, false}
-use mathlib.Core.List.{List, [], ◌∷◌, ◌++◌}
-use mathlib.Core.Logic.{inl, inr}
-use Prim.Native.Nat.{ℕ, ◌+◌, ◌*◌, ◌<◌, ◌≤◌}
+use mathlib.Core.Bool.{Bool}
+use mathlib.Core.List.{List, [], ◌++◌}
+use Prim.Native.Nat.{ℕ, ◌*◌, ◌<◌, ◌≤◌}
 use native.Mathlib.Omega.{arith}
 use lib.ListN.{length, take, length-take, length-append}
 use lib.Seq.{get_or-take}
 use Rattle.field.specs.declared.Placing.{Placing}
 use Rattle.mapfile.specs.File.{raw}
-use Rattle.mapfile.specs.Following.{refused, too_long}
+use Rattle.mapfile.specs.Following.{refused}
 use Rattle.mapfile.specs.RockLaws.{raster_bits}
 use Rattle.following.specs.declared.First.{First}
-use Rattle.following.specs.declared.First.TheVariants.{Map, Refused, Long, Unended}
-use Rattle.following.specs.Promise.{Stands, MapRead, NotTold, FirstRead}
+use Rattle.following.specs.declared.First.TheVariants.{Map, Refused}
+use Rattle.following.specs.Promise.{Stands, MapRead, FirstRead}
 use Rattle.printing.specs.Printed as printed
 use Rattle.printing.specs.Printed.{long, RefusalLine}
 use Rattle.printing.specs.Parts.{Put, Puts}
-use Rattle.planning.specs.declared.lines.Told.{Told}
 use Rattle.planning.specs.declared.Run.{Run}
-use Rattle.planning.specs.Promise.{most_maps, all_read, bad_map, past_bytes, past_maps}
-use Rattle.planning.specs.Steps.{step_room, OneMap, RunEnds, NotYet}
-use Rattle.planning.specs.Parts.{Addable, FourNumbers, MayTellMap, MapTold}
+use Rattle.planning.specs.Promise.{most_maps, bad_map, past_maps}
+use Rattle.planning.specs.Steps.{step_room, RunEnds}
+use Rattle.planning.specs.Parts.{Addable, MayTellMap}
 
 -- Each answer with its own promise.
 pub map_read : {src out : List ℕ} {ended : Bool} {w h used : ℕ} {r : First} → FirstRead src ended out r → r ≡ Map w h used → MapRead src ended w h used out
@@ -30,52 +28,23 @@ map_read p e = rw e at p
 pub refused_read : (src out : List ℕ) (ended : Bool) {n : ℕ} {r : First} → FirstRead src ended out r → r ≡ Refused n → Stands src ended (λ t. refused n)
 refused_read src out ended p e = rw e at p
 
-pub long_read : (src out : List ℕ) (ended : Bool) {r : First} → FirstRead src ended out r → r ≡ Long → Stands src ended (λ t. too_long)
-long_read src out ended p e = rw e at p
-
-pub not_read : (src out : List ℕ) (ended : Bool) {r : First} → FirstRead src ended out r → r ≡ Unended → NotTold src ended
-not_read src out ended p e = rw e at p
-
 -- Bytes at hand are there whatever follows.
-pub no_bytes : (l : List ℕ) → length l ≡ 0 → l ≡ []
-no_bytes [] e = refl
-no_bytes (b ∷ l) e = absurd (omega arith)
-
-pub some_bytes : (l t : List ℕ) → 1 ≤ length l → ¬ (l ++ t ≡ [])
+some_bytes : (l t : List ℕ) → 1 ≤ length l → ¬ (l ++ t ≡ [])
 some_bytes l t s e = omega (arith, length-append l t, ap length e)
 
-module _ {src bits : List ℕ} {ended : Bool} {w h used : ℕ} (m : MapRead src ended w h used bits) where
-  -- The map that was read can be told.
-  pub map_tells : {sums : Placing} {out : List ℕ} → Addable 4 sums → step_room ≤ length out → MayTellMap w h bits sums out
-  map_tells a l =
-      let f = m.stands [] (λ e. refl) in
-      let r = f.map.raster in
-      record {
-        sides = f.map.sides;
-        whole = omega (arith, length-take (h * w) bits, r.crossings);
-        ones = λ i k. omega (arith, get_or-take (h * w) bits i 0 k, raster_bits raw w h f.map.own (take (h * w) bits) r i);
-        room = l;
-        addable = a;
-      }
-
-  -- Its lines are a step of the run.
-  pub map_steps : {r : Run} {out after : List ℕ} {told : Told} → r.maps < most_maps → MapTold w h bits r.sums out after told
-      → Puts (OneMap r src ended used (record { maps = r.maps + 1; sums = told.sums })) out 0 after told.end
-  map_steps b p =
-      record {
-        piece = p.piece;
-        right = record {
-          w = w;
-          h = h;
-          bits = take (h * w) bits;
-          before = b;
-          counted = refl;
-          within = m.within;
-          first = m.stands;
-          lines = p.right;
-        };
-        put = p.put;
-      }
+-- The map that was read can be told.
+pub map_tells : {src bits : List ℕ} {ended : Bool} {w h used : ℕ} → MapRead src ended w h used bits → {sums : Placing} {out : List ℕ} → Addable 4 sums
+    → step_room ≤ length out → MayTellMap w h bits sums out
+map_tells {src} {bits} {ended} {w} {h} m a l =
+    let f = m.stands [] (λ e. refl) in
+    let r = f.map.raster in
+    record {
+      sides = f.map.sides;
+      whole = omega (arith, length-take (h * w) bits, r.crossings);
+      ones = λ i k. omega (arith, get_or-take (h * w) bits i 0 k, raster_bits raw w h f.map.own (take (h * w) bits) r i);
+      room = l;
+      addable = a;
+    }
 
 module _ (r : Run) (src : List ℕ) (ended : Bool) {out after : List ℕ} {end : ℕ} where
   -- A refusal ends the run,
@@ -83,20 +52,6 @@ module _ (r : Run) (src : List ℕ) (ended : Bool) {out after : List ℕ} {end :
       → Puts (RunEnds r src ended) out 0 after end
   refusal_ends {n} b s f p = record { piece = p.piece; right = λ t k. bad_map n b (some_bytes src t s) (f t k) p.right; put = p.put }
 
-  -- and so do bytes past the bound, or maps past theirs,
-  pub long_ends : r.maps < most_maps → Stands src ended (λ t. too_long) → Put out 0 (printed.refused ++ long) after end → Puts (RunEnds r src ended) out 0 after end
-  long_ends b f p = record { piece = printed.refused ++ long; right = λ t k. past_bytes b (f t k) refl; put = p }
-
+  -- and so do maps past the bound.
   pub maps_end : most_maps ≤ r.maps → 1 ≤ length src → Put out 0 (printed.refused ++ long) after end → Puts (RunEnds r src ended) out 0 after end
   maps_end b s p = record { piece = printed.refused ++ long; right = λ t k. past_maps b (some_bytes src t s) refl; put = p }
-
-  -- and the end of the input.
-  pub sums_end : length src ≡ 0 → ended ≡ true → Puts (FourNumbers r.sums) out 0 after end → Puts (RunEnds r src ended) out 0 after end
-  sums_end s e p = record { piece = p.piece; right = λ t k. all_read (rw (no_bytes src s, k e)) p.right.line; put = p.put }
-
--- Nothing is told yet.
-pub none_yet : {r : Run} {src : List ℕ} {ended : Bool} → r.maps < most_maps → NotTold src ended → NotYet r src ended
-none_yet b n = record { goes_on = n.going; few = n.short; open_yet = inr (b, n.undecided) }
-
-pub none_there : {r : Run} {src : List ℕ} {ended : Bool} → length src ≡ 0 → ended ≡ false → NotYet r src ended
-none_there {r} {src} s e = record { goes_on = e; few = omega arith; open_yet = inl (no_bytes src s) }

@@ -36,7 +36,7 @@ module _ {p : Placing} {out a b c after : List ℕ} {at i j k end : ℕ} where
       three = put_then l (put_then l q.put r.put) s.put
 
       all : Put out at (q.piece ++ (r.piece ++ (s.piece ++ t.piece))) after end
-      all = rw (append_assoc, append_assoc) at (put_then l three t.put)
+      all = simp append_assoc at (put_then l three t.put)
 
 -- How far a corner's line reaches, and that others can be added after it.
 module _ {w h : ℕ} {C : ℕ → ℕ → Type 0} {d : Depot} {told r : Told} {out after : List ℕ} (t : DepotTold w h C d told out after r) where
@@ -69,7 +69,7 @@ module _ {w h : ℕ} {C : ℕ → ℕ → Type 0} {sums : Placing} {out a b c af
           sums = t.sums ∙ ap (λ (n : Placing). plus n t.numbers) (s.sums ∙ ap (λ (n : Placing). plus n s.numbers) (q.sums ∙ ap (λ (n : Placing). plus n q.numbers) p.sums));
           is = refl;
         };
-        put = rw (append_assoc, append_assoc) at (put_then (omega arith) three t.puts.put);
+        put = simp append_assoc at (put_then (omega arith) three t.puts.put);
       }
     where
       three : Put out 0 ((p.puts.piece ++ q.puts.piece) ++ s.puts.piece) c k.end

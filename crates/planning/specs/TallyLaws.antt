@@ -1,6 +1,6 @@
 -- A run goes on within its bounds, so that its sums never overflow: a map adds at most every
 -- crossing of the largest map to each sum, four times.
-use Rattle.std.specs.Prelude.{◌≡◌, refl, Bool, List, [], ℕ, ◌+◌, ◌*◌, ◌-◌, ◌<◌, ◌≤◌}
+use Rattle.std.specs.Prelude.{◌≡◌, refl, Bool, List, [], ℕ, ◌+◌, ◌*◌, ◌<◌, ◌≤◌}
 use Rattle.std.proofs.Common.{ap, arith, suc-mul, mul-le-mul_right, add-one}
 use Rattle.field.specs.declared.Placing.{Placing}
 use Rattle.field.specs.Map.{side, Sides}

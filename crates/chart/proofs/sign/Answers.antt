@@ -4,11 +4,11 @@ use mathlib.Core.Path.{◌≡◌, refl, sym, ap}
 use Rattle.chart.specs.Drawing.{sign_of}
 use Rattle.chart.proofs.sign.Goals as goal
 
-sign-other : (b : ℕ) → ¬ (b ≡ 0) → ¬ (b ≡ 1) → 111 ≡ sign_of b
+sign_other : (b : ℕ) → ¬ (b ≡ 0) → ¬ (b ≡ 1) → 111 ≡ sign_of b
 unfolding sign_of
-sign-other zero p q = absurd (p refl)
-sign-other (suc zero) p q = absurd (q refl)
-sign-other (suc (suc b)) p q = refl
+sign_other zero p q = absurd (p refl)
+sign_other (suc zero) p q = absurd (q refl)
+sign_other (suc (suc b)) p q = refl
 
 pub returns-then-label-eq0 : goal.returns-then-label-eq0
 unfolding sign_of
@@ -19,4 +19,4 @@ unfolding sign_of
 returns-then-label-eq1 c = sym (ap sign_of c.if-label-eq1.true)
 
 pub returns : goal.returns
-returns c = sign-other _ c.if-label-eq0.false c.if-label-eq1.false
+returns c = sign_other _ c.if-label-eq0.false c.if-label-eq1.false

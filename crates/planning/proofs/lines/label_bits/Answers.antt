@@ -1,0 +1,18 @@
+-- `label_bits` meets its contract: the bits turned onto the sheet stamp it with the map's rocks,
+-- and the labels mark the closed crossings.
+use Rattle.field.specs.Workings.Labelling.{label_sheet_draws}
+use Rattle.field.specs.Workings.SameLaws.{label_sheet_same}
+use Rattle.turning.specs.Stamping.{turned_stamped, turned_draws, stones_alike}
+use Rattle.planning.proofs.lines.label_bits.Goals as goal
+
+pub label-requires : goal.label-requires
+label-requires c =
+    let p = c.requires in
+    turned_stamped c.args.bits.now p.turn.sides p.ones c.turn.ensures
+
+pub returns : goal.returns
+returns c =
+    let a = c.args in
+    let p = c.requires in
+    label_sheet_draws _ a.w a.h c.label.new.s
+    (label_sheet_same a.w a.h (stones_alike (turned_draws a.bits.now p.turn.sides p.ones c.turn.ensures)) c.label.ensures.sheet)
