@@ -1,4 +1,4 @@
-//! Links the proved static library. `rt staticlib layer` writes it; it is not made here, so that a
+//! Links the proved static library. `tests/library` writes it; it is not made here, so that a
 //! build never proves by surprise. `GRAINBODKIN_LIB_DIR` names another folder that holds it.
 use std::env;
 use std::path::{Path, PathBuf};
@@ -27,7 +27,7 @@ fn main() {
     println!("cargo:rerun-if-changed={}", library.display());
     if !library.exists() {
         refuse(&format!(
-            "there is no {}: run `rt staticlib layer` at the repository's root, or name the \
+            "there is no {}: run `tests/library` at the repository's root, or name the \
              library's folder in GRAINBODKIN_LIB_DIR",
             library.display()
         ));

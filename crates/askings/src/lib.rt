@@ -13,7 +13,8 @@ ghost use Rattle.askings.specs.Promise.{LinesRest, LinesDriveRest, SweepsRest};
 ghost use Rattle.askings.specs.Morning.{MayHopBy, HopByRest};
 
 use calls::{Assurance, Checked, CrossingLines, Drove, Four, Homeward, Labelling, Swept};
-use field::refusals::{END_CLOSED, NOT_ASSURED, NOT_TAKEN, SUCCESS};
+use field::morning::NOT_TAKEN;
+use field::refusals::{END_CLOSED, NOT_ASSURED, SUCCESS};
 use telling::{an_end_closed, no_assurance, no_check, no_crossings, no_hop, no_lines_told};
 
 // n where no refusal was found before.

@@ -4,6 +4,7 @@
 
 pub mod refusals; // refusals.rt: the refusal numbers
 pub mod reasons; // reasons.rt: why a drawn list is refused
+pub mod morning; // morning.rt: the refusal of a call that is not exported yet
 
 // "Width and height: 1 to 64 each"; "Raise width and height to 256" (document 02, Req 07).
 pub const SIDE: usize = 256;

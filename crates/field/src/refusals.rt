@@ -60,6 +60,3 @@ pub const BAD_LARGEST: u8 = 18;
 
 // drive by way of crossing lines asked and no such column and row
 pub const NO_LINES: u8 = 19;
-
-// a morning sheet not taken
-pub const NOT_TAKEN: u8 = 20;

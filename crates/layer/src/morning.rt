@@ -7,7 +7,8 @@ ghost use Rattle.layer.specs.Morning.{looked_table};
 
 use calls::Homeward;
 use field::Marker;
-use field::refusals::{NOT_TAKEN, SUCCESS};
+use field::morning::NOT_TAKEN;
+use field::refusals::SUCCESS;
 
 // The first part: the lowest of refusals 1 to 4; where there is none, 20 if the sheet shows a rock
 // open that stops a cart of this clearance; else 0.

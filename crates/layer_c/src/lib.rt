@@ -8,7 +8,6 @@ ghost use Rattle.calls.specs.CheckCall.{CheckCall};
 ghost use Rattle.calls.specs.SweepsCall.{SweepsCall};
 ghost use Rattle.calls.specs.LinesCall.{LinesCall, LinesDriveCall};
 ghost use Rattle.calls.specs.PictureCalls.{WriteSheetCall, ReadSheetCall};
-ghost use Rattle.calls.specs.HopByCall.{HopByCall};
 
 use calls::{
     Assurance, Checked, Counted, CrossingLines, Drove, Four, Homeward, Labelling, ReadMap,
@@ -322,24 +321,4 @@ pub extern "C" fn bodkin_read_sheet(src: &[u8], sheet: &mut [u16]) -> SheetRead
     ensures { ReadSheetCall src.now sheet.old sheet.new result }
 {
     layer::pictures::bodkin_read_sheet(src, sheet)
-}
-
-// Every permitted hop of a cart of this clearance from (x, y) towards home (hx, hy) by a morning
-// sheet, none at home, or the refusal: 1, 2, 3, 4, 20, 8 or 11, in this order.
-#[unsafe(no_mangle)]
-pub extern "C" fn bodkin_hop_by(
-    list: &[Marker],
-    count: usize,
-    w: usize,
-    h: usize,
-    clearance: u16,
-    hx: usize,
-    hy: usize,
-    x: usize,
-    y: usize,
-    sheet: &[u8],
-) -> Homeward
-    ensures { HopByCall (lent_map list.now count w h clearance) hx hy x y sheet.now result }
-{
-    layer::morning::bodkin_hop_by(list, count, w, h, clearance, hx, hy, x, y, sheet)
 }
