@@ -10,27 +10,12 @@ use lib.ListN.{length}
 use borrow.Author.Tests.{ltb-false, lt-ltb, le-ltb}
 use Rattle.field.specs.Workings.Tests.{bit, bit_le}
 use Rattle.mapfile.specs.Following.{most_bytes}
-use Rattle.printing.specs.Parts.{Puts}
-use Rattle.planning.specs.declared.Next.{Next}
-use Rattle.planning.specs.declared.Next.TheVariants.{Map, Last, More}
 use Rattle.planning.specs.declared.Run.{Run}
 use Rattle.planning.specs.Promise.{most_maps}
-use Rattle.planning.specs.Steps.{OneMap, RunEnds, NotYet, Stepped}
+use Rattle.planning.specs.Steps.{OneMap, NotYet}
 use Rattle.planning.specs.TallyLaws.{next_tally}
 use Rattle.depots.specs.declared.State.{State}
 use Rattle.depots.specs.States.{input_room, Filled, Finished, Advanced, Stands, unfilled, left, StepMade}
-
--- Each answer of a step with its own promise.
-module _ (r : Run) (src : List ℕ) (ended : Bool) (out after : List ℕ) where
-  pub lines_said : {n : Next} {used end : ℕ} {next : Run} → Stepped r src ended out after n → n ≡ Map used end next
-      → Puts (OneMap r src ended used next) out 0 after end
-  lines_said p e = rw e at p
-
-  pub last_said : {n : Next} {end : ℕ} → Stepped r src ended out after n → n ≡ Last end → Puts (RunEnds r src ended) out 0 after end
-  last_said p e = rw e at p
-
-  pub more_said : {n : Next} → Stepped r src ended out after n → n ≡ More → NotYet r src ended
-  more_said p e = let q : NotYet r src ended × (after ≡ out) = rw e at p in q.0
 
 -- What is left to do while the program goes on, and at most.
 left_going : (s : State) → s.going ≡ true → left s ≡ 1 + 2 * (most_maps - s.run.maps) + unfilled s

@@ -17,6 +17,13 @@ const TEXT: usize = 65536;
 
 const OUTPUT: usize = TEXT + ROOM;
 
+// The descriptors that every program is started with.
+const STDIN: i32 = 0;
+
+const STDOUT: i32 = 1;
+
+const STDERR: i32 = 2;
+
 // Where the program stands: the run so far; the bytes at hand, which stand in the input buffer from
 // `from` up to `held`; whether the input ends there; how much text is gathered; and whether to go
 // on.
@@ -35,12 +42,9 @@ struct State {
 fn print(out: &[u8], end: usize) -> bool
     requires { end ≤ length out.now }
 {
-    let written = io::write_all(libc::STDOUT_FILENO, &out[..end]);
+    let written = io::write_all(STDOUT, &out[..end]);
     if !written {
-        io::write_all(
-            libc::STDERR_FILENO,
-            b"depots: the text could not be written\n",
-        );
+        io::write_all(STDERR, b"depots: the text could not be written\n");
     }
     written
 }
@@ -65,7 +69,7 @@ fn read_on(src: &mut [u8], s: State) -> State
     ensures { Filled (length src.old) s result }
 {
     let left = keep(src, s.from, s.held);
-    let more = io::read_full(libc::STDIN_FILENO, &mut src[left..]);
+    let more = io::read_full(STDIN, &mut src[left..]);
     let run = s.run;
     let held = left + more;
     State {

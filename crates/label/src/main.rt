@@ -11,23 +11,27 @@ use chart::ROOM;
 // told from the longest.
 const INPUT: usize = 65537;
 
+// The descriptors that every program is started with.
+const STDIN: i32 = 0;
+
+const STDOUT: i32 = 1;
+
+const STDERR: i32 = 2;
+
 // Prints the text that stands at the front of the output. A program has no exit status to tell a
 // closed output by, so it says it on standard error.
 fn print(out: &[u8; ROOM], end: usize)
     requires { end ≤ room }
 {
     let whole: &[u8] = out;
-    if !io::write_all(libc::STDOUT_FILENO, &whole[..end]) {
-        io::write_all(
-            libc::STDERR_FILENO,
-            b"label: the text could not be written\n",
-        );
+    if !io::write_all(STDOUT, &whole[..end]) {
+        io::write_all(STDERR, b"label: the text could not be written\n");
     }
 }
 
 fn main() {
     let mut src = [0u8; INPUT];
-    let n = io::read_full(libc::STDIN_FILENO, &mut src);
+    let n = io::read_full(STDIN, &mut src);
     let mut out = [0u8; ROOM];
     let end = chart::chart(&src[..n], &mut out);
     print(&out, end);

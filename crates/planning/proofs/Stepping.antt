@@ -2,7 +2,7 @@
 use mathlib.Core.Path.{◌≡◌, refl, ap}
 use mathlib.Core.Bool.{Bool}
 use mathlib.Core.List.{List, [], ◌++◌}
-use Prim.Native.Nat.{ℕ, ◌*◌, ◌<◌, ◌≤◌}
+use Prim.Native.Nat.{ℕ, ◌+◌, ◌*◌, ◌<◌, ◌≤◌}
 use native.Mathlib.Omega.{arith}
 use lib.ListN.{length, take, length-take, length-append}
 use lib.Seq.{get_or-take}
@@ -16,10 +16,11 @@ use Rattle.following.specs.Promise.{Stands, MapRead, FirstRead}
 use Rattle.printing.specs.Printed as printed
 use Rattle.printing.specs.Printed.{long, RefusalLine}
 use Rattle.printing.specs.Parts.{Put, Puts}
+use Rattle.planning.specs.declared.lines.Told.{Told}
 use Rattle.planning.specs.declared.Run.{Run}
 use Rattle.planning.specs.Promise.{most_maps, bad_map, past_maps}
-use Rattle.planning.specs.Steps.{step_room, RunEnds}
-use Rattle.planning.specs.Parts.{Addable, MayTellMap}
+use Rattle.planning.specs.Steps.{step_room, OneMap, RunEnds}
+use Rattle.planning.specs.Parts.{Addable, MayTellMap, MapTold}
 
 -- Each answer with its own promise.
 pub map_read : {src out : List ℕ} {ended : Bool} {w h used : ℕ} {r : First} → FirstRead src ended out r → r ≡ Map w h used → MapRead src ended w h used out
@@ -32,19 +33,38 @@ refused_read src out ended p e = rw e at p
 some_bytes : (l t : List ℕ) → 1 ≤ length l → ¬ (l ++ t ≡ [])
 some_bytes l t s e = omega (arith, length-append l t, ap length e)
 
--- The map that was read can be told.
-pub map_tells : {src bits : List ℕ} {ended : Bool} {w h used : ℕ} → MapRead src ended w h used bits → {sums : Placing} {out : List ℕ} → Addable 4 sums
-    → step_room ≤ length out → MayTellMap w h bits sums out
-map_tells {src} {bits} {ended} {w} {h} m a l =
-    let f = m.stands [] (λ e. refl) in
-    let r = f.map.raster in
-    record {
-      sides = f.map.sides;
-      whole = omega (arith, length-take (h * w) bits, r.crossings);
-      ones = λ i k. omega (arith, get_or-take (h * w) bits i 0 k, raster_bits raw w h f.map.own (take (h * w) bits) r i);
-      room = l;
-      addable = a;
-    }
+module _ {src bits : List ℕ} {ended : Bool} {w h used : ℕ} (m : MapRead src ended w h used bits) where
+  -- The map that was read can be told.
+  pub map_tells : {sums : Placing} {out : List ℕ} → Addable 4 sums → step_room ≤ length out → MayTellMap w h bits sums out
+  map_tells a l =
+      let f = m.stands [] (λ e. refl) in
+      let r = f.map.raster in
+      record {
+        sides = f.map.sides;
+        whole = omega (arith, length-take (h * w) bits, r.crossings);
+        ones = λ i k. omega (arith, get_or-take (h * w) bits i 0 k, raster_bits raw w h f.map.own (take (h * w) bits) r i);
+        room = l;
+        addable = a;
+      }
+
+  -- Its lines are a step of the run.
+  pub map_steps : {r : Run} {out after : List ℕ} {told : Told} → r.maps < most_maps → MapTold w h bits r.sums out after told
+      → Puts (OneMap r src ended used (record { maps = r.maps + 1; sums = told.sums })) out 0 after told.end
+  map_steps b p =
+      record {
+        piece = p.piece;
+        right = record {
+          w = w;
+          h = h;
+          bits = take (h * w) bits;
+          before = b;
+          counted = refl;
+          within = m.within;
+          first = m.stands;
+          lines = p.right;
+        };
+        put = p.put;
+      }
 
 module _ (r : Run) (src : List ℕ) (ended : Bool) {out after : List ℕ} {end : ℕ} where
   -- A refusal ends the run,

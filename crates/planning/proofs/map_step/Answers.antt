@@ -3,7 +3,7 @@ use Rattle.std.proofs.Common.{arith}
 use Rattle.field.specs.Limits.{most_crossings_is}
 use Rattle.planning.specs.Promise.{most_maps}
 use Rattle.planning.specs.TallyLaws.{tally_addable}
-use Rattle.planning.proofs.Stepping.{map_read, refused_read, map_tells, refusal_ends}
+use Rattle.planning.proofs.Stepping.{map_read, refused_read, map_tells, map_steps, refusal_ends}
 use Rattle.planning.proofs.map_step.Goals as goal
 
 pub next_map-first-requires : goal.next_map-first-requires
@@ -17,6 +17,9 @@ put_map-told-requires c =
 pub overflow_add-next : goal.overflow_add-next
 unfolding most_maps
 overflow_add-next c = omega (arith, c.requires.before)
+
+pub returns-in-Map : goal.returns-in-Map
+returns-in-Map c = map_steps (map_read c.next_map-first.ensures c.in-Map.is) c.requires.before c.put_map-told.ensures
 
 pub returns-in-Refused : goal.returns-in-Refused
 returns-in-Refused c =
