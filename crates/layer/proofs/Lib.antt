@@ -3,6 +3,7 @@ mod Tables
 mod Seeking
 mod Listing
 mod Joining
+mod Writing
 mod LabelAnswers
 mod DriveAnswers
 mod Mornings

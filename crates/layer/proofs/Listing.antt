@@ -1,12 +1,12 @@
 -- What the rows of entering and clearing leave where none applies, and what the calls promise of
 -- the list.
 use mathlib.Core.Path.{◌≡◌, refl, subst}
-use mathlib.Core.List.{List, [], ◌∷◌}
+use mathlib.Core.List.{List}
 use mathlib.Core.Logic.{inl}
 use Prim.Native.Nat.{ℕ, ◌<◌, ◌^◌}
 use native.Mathlib.Omega.{arith}
 use native.Mathlib.Decide.{dec_lt}
-use lib.Dec.{T, lit<}
+use lib.Dec.{lit<}
 use lib.ListN.{length}
 use Rattle.field.specs.declared.Marker.{Marker}
 use Rattle.markers.specs.List.{InUse}

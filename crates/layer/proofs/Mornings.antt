@@ -1,21 +1,20 @@
 -- The two parts of the hop by a morning sheet joined. The first part has held the sheet against the
 -- list, the second has looked at the sheet by itself: a sheet is taken where both find no fault.
-use mathlib.Core.Path.{◌≡◌, refl, sym, subst, ◌∙◌}
+use mathlib.Core.Path.{◌≡◌, refl, sym, subst}
 use mathlib.Core.Bool.{Bool, true, false, true≢false}
-use mathlib.Core.List.{List, [], ◌∷◌, ◌++◌}
+use mathlib.Core.List.{List, [], ◌∷◌}
 use mathlib.Core.Logic.{◌↔◌, ◌⊎◌, inl, inr}
 use Prim.Native.Nat.{ℕ, ◌*◌}
-use native.Mathlib.Omega.{arith}
 use native.Mathlib.Decide.{ℕ_discrete}
 use lib.Dec.{lit<}
 use lib.ListN.{length}
 use Rattle.field.specs.Refusals.{sheet_not_taken}
-use Rattle.field.specs.Morning.{RocksShown, SheetTaken}
+use Rattle.field.specs.Morning.{RocksShown}
 use Rattle.taking.specs.Promise.{Steady}
 use Rattle.calls.specs.Rules
 use Rattle.calls.specs.Rules.{LentMap, Formed, RocksOf, Gives, Misfit, rule}
 use Rattle.calls.specs.RuleLaws.{None, gives_none, gives_reworded, gives_early, gives_later, same, holds, sides_hold, on_holds}
-use Rattle.calls.specs.HopByCall.{TakenOn, ShownOn, hop_by_rows, hop_by_table, HopByCall}
+use Rattle.calls.specs.HopByCall.{ShownOn, hop_by_rows, hop_by_table, HopByCall}
 use Rattle.calls.specs.declared.Homeward.{Homeward}
 use Rattle.judging.specs.Judging.{asking_judged}
 use Rattle.askings.specs.Morning.{MayHopBy, HopByRest}

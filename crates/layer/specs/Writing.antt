@@ -2,22 +2,16 @@
 -- the table: the sheet is of the map's size and no place is asked. The second part's is row 16: all
 -- markers are stamped, and the marks are as many exactly where no two share one. The third part's
 -- is row 17: the rocks are stamped over them, and the sheet's marks are these.
-use Rattle.std.specs.Prelude.{◌≡◌, Bool, true, false, List, [], ◌∷◌, ◌↔◌, ◌⊎◌, ℕ, ◌+◌, ◌*◌, ◌-◌, ◌<◌, length}
+use Rattle.std.specs.Prelude.{◌≡◌, Bool, true, false, List, ◌↔◌, ◌⊎◌, ℕ, ◌+◌, ◌*◌, ◌-◌, ◌<◌, length}
 use Rattle.std.proofs.Common.{◌∙◌, true≢false, inl, inr, arith}
 use Rattle.field.specs.Map.{On}
 use Rattle.field.specs.Refusals.{success, bad_size, bad_list, shared_crossing}
-use Rattle.field.specs.Workings.Sheet.{Marked}
 use Rattle.mapfile.specs.Written.{Written}
-use Rattle.sheets.specs.Promise.{Fits}
-use Rattle.calls.specs.Rules
-use Rattle.calls.specs.Rules.{LentMap, Sized, OnIt, Formed, RocksOf, Gives, Shared, TooShort}
-use Rattle.calls.specs.Parts.{before}
+use Rattle.calls.specs.Rules.{LentMap, Sized, OnIt, Formed, Gives, Shared}
 use Rattle.calls.specs.RuleLaws.{sides_hold, formed_holds}
 use Rattle.layer.specs.Prepared.{asking_found, Prepared}
 use Rattle.layer.specs.Sharing.{marks_apart, marks_shared}
-use Rattle.exchange.specs.Promise.{Area, shared_rows, MayWrite, WriteRest}
-use Rattle.calls.specs.Calls.{WriteCall}
-use Rattle.calls.specs.declared.WroteMap.{WroteMap}
+use Rattle.exchange.specs.Promise.{Area, shared_rows}
 
 -- What is written depends only on which crossings of the map are rocks.
 pub written_moved : {w h : ℕ} {R S : ℕ → ℕ → Type 0} {file : List ℕ} → ((x y : ℕ) → On w h x y → (R x y ↔ S x y)) → Written w h R file → Written w h S file
@@ -43,13 +37,13 @@ written_moved {w} {h} same p =
 
 -- What the first part tells: the map's size is against the limits, or the list is not well formed,
 -- or nothing is refused.
-data First (m : LentMap) (n : ℕ) : Type 0 where
+pub data First (m : LentMap) (n : ℕ) : Type 0 where
   no_size : ¬ Sized m → n ≡ bad_size → First m n
   no_list : Sized m → ¬ Formed m → n ≡ bad_list → First m n
   passed : Sized m → Formed m → n ≡ success → First m n
 
 -- And with it the second: two markers share a crossing, or no two do.
-data Second (m : LentMap) (n : ℕ) : Type 0 where
+pub data Second (m : LentMap) (n : ℕ) : Type 0 where
   no_size : ¬ Sized m → n ≡ bad_size → Second m n
   no_list : Sized m → ¬ Formed m → n ≡ bad_list → Second m n
   two_share : Sized m → Formed m → Shared m.list m.count → n ≡ shared_crossing → Second m n
@@ -79,7 +73,7 @@ module _ {m : LentMap} {low : Bool} {n : ℕ} {sheet sheet' : List ℕ} (area : 
       go (inr (s, inr (_, inr (f, inr q)))) = passed (sides_hold s) (formed_holds f) q.1
 
   -- On a good map with a good list nothing is refused.
-  good : Sized m → Formed m → n ≡ success
+  pub good : Sized m → Formed m → n ≡ success
   good s f = go first
     where
       go : First m n → n ≡ success
@@ -92,7 +86,7 @@ module _ {m : LentMap} {low : Bool} {n : ℕ} {sheet sheet' : List ℕ} (area : 
 module _ {m : LentMap} {n₁ n₂ n₃ : ℕ} {sheet marked stamped : List ℕ} (area : Area m.width m.height (length sheet))
     (again : Area m.width m.height (length marked)) (p : Prepared m true 0 0 0 0 true sheet marked n₁)
     (g : Gives (shared_rows n₁ m.count marked) n₂) (q : Prepared m false 0 0 0 0 true marked stamped n₃) where
-  second : Second m n₂
+  pub second : Second m n₂
   second = go (first area p) g
     where
       go : First m n₁ → Gives (shared_rows n₁ m.count marked) n₂ → Second m n₂
@@ -104,65 +98,3 @@ module _ {m : LentMap} {n₁ n₂ n₃ : ℕ} {sheet marked stamped : List ℕ} 
       go (passed s f d) (inr (_, inl k)) = two_share s f (marks_shared marked f (p.stamped d) k.0) k.1
       go (passed s f d) (inr (_, inr k)) =
           passed s f (λ t. k.0 (λ e. marks_apart marked f (p.stamped d) e t)) k.1
-
-  -- Where nothing is refused, the third part may write.
-  pub may_write : MayWrite n₂ m.width m.height stamped
-  may_write z = go second
-    where
-      go : Second m n₂ → Fits m.width m.height stamped
-      go (no_size s e) = absurd (omega arith)
-      go (no_list s f e) = absurd (omega arith)
-      go (two_share s f t e) = absurd (omega arith)
-      go (passed s f t e) = record { sides = s; size = (q.stamped (good again q s f)).size }
-
-  -- The sheet's marks are the cart's rocks: so the file over its marks is the file over them, and
-  -- row 17 over its marks is the list's.
-  module _ (s : Sized m) (f : Formed m) where
-    marked_rock : (x y : ℕ) → OnIt m x y → (Marked stamped m.width m.height x y ↔ RocksOf m x y)
-    marked_rock x y o =
-        let d = (q.stamped (good again q s f)).rocks in (λ k. (d.sound x y k).stone, λ r. d.complete x y (record { on = o; stone = r }))
-
-    carried : {file : List ℕ} → Written m.width m.height (Marked stamped m.width m.height) file ↔ Written m.width m.height (RocksOf m) file
-    carried = (written_moved marked_rock, written_moved (λ x y o. ((marked_rock x y o).1, (marked_rock x y o).0)))
-
-    short_both : {out : List ℕ} → TooShort m.width m.height (Marked stamped m.width m.height) out ↔ TooShort m.width m.height (RocksOf m) out
-    short_both =
-        (λ t. record { file = t.file; written = carried.0 t.written; short = t.short }, λ t. record { file = t.file; written = carried.1 t.written; short = t.short })
-
-  module _ {out out' : List ℕ} {r : WroteMap} (u : WriteRest n₂ m.width m.height stamped out out' r) where
-    abbrev Third : Type 0
-    Third = Gives (before n₂ ∷ Rules.output_rule m.width m.height (Marked stamped m.width m.height) out ∷ []) r.refusal
-
-    -- The rows of all parts are the table's.
-    table : Second m n₂ → Third → Gives (Rules.write_table m out) r.refusal
-    table (no_size s d) (inl k) = inl (s, k.1 ∙ d)
-    table (no_size s d) (inr k) = absurd (k.0 (λ e. omega arith))
-    table (no_list s f d) (inl k) = inr (λ e. e s, inl (f, k.1 ∙ d))
-    table (no_list s f d) (inr k) = absurd (k.0 (λ e. omega arith))
-    table (two_share s f t d) (inl k) = inr (λ e. e s, inr (λ e. e f, inl (t, k.1 ∙ d)))
-    table (two_share s f t d) (inr k) = absurd (k.0 (λ e. omega arith))
-    table (passed s f t d) (inl k) = absurd (k.0 d)
-    table (passed s f t d) (inr (_, inl k)) = inr (λ e. e s, inr (λ e. e f, inr (t, inl ((short_both s f).0 k.0, k.1))))
-    table (passed s f t d) (inr (_, inr k)) = inr (λ e. e s, inr (λ e. e f, inr (t, inr (λ e. k.0 ((short_both s f).1 e), k.1))))
-
-    -- Where nothing is refused, nothing was before.
-    none_before : Second m n₂ → Third → r.refusal ≡ 0 → Sized m × Formed m
-    none_before (no_size s d) (inl k) z = absurd (omega (arith, k.1))
-    none_before (no_size s d) (inr k) z = absurd (k.0 (λ e. omega arith))
-    none_before (no_list s f d) (inl k) z = absurd (omega (arith, k.1))
-    none_before (no_list s f d) (inr k) z = absurd (k.0 (λ e. omega arith))
-    none_before (two_share s f t d) k z = (s, f)
-    none_before (passed s f t d) k z = (s, f)
-
-    -- The call's promise.
-    pub write_call : WriteCall m out out' r
-    write_call =
-        record {
-          given = table second u.given;
-          kept = u.kept;
-          refused = u.refused;
-          done = λ z.
-              let w = u.done z in
-              let k = none_before second u.given z in
-              record { file = w.file; written = (carried k.0 k.1).0 w.written; counted = w.counted; is = w.is };
-        }

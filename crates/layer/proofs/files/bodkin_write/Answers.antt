@@ -1,5 +1,5 @@
 -- `bodkin_write` keeps its promise: its own sheet has room for the largest map.
-use Rattle.std.proofs.Common.{◌≡◌, ◌≤◌, ℕ, sym, subst, length, arith, length-take-le}
+use Rattle.std.proofs.Common.{◌≤◌, sym, subst, arith, length-take-le}
 use Rattle.field.specs.Limits.{most_crossings_is}
 use Rattle.exchange.specs.Promise.{Area}
 use Rattle.layer.proofs.files.bodkin_write.Goals as goal

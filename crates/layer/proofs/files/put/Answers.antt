@@ -1,10 +1,10 @@
 -- `put` meets its contract: the next rock of the bits is the next of the map's markers, so that one
 -- store puts one marker more.
-use Rattle.std.proofs.Common.{◌≡◌, ℕ, refl, ap, ap₂, ◌∙◌, ◌<◌, ◌*◌, List, length, take, set, arith}
+use Rattle.std.proofs.Common.{◌≡◌, ℕ, refl, ap, ap₂, ◌∙◌, ◌*◌, List, take, set, arith}
 use Rattle.field.specs.declared.Marker.{Marker}
 use Rattle.mapfile.specs.File.{markers_of}
 use Rattle.layer.specs.Files.{put_in}
-use Rattle.layer.specs.Putting.{passed_none, rock_ahead, next_below, passed_next, may_mark, next_slot}
+use Rattle.layer.specs.Putting.{passed_none, rock_ahead, passed_next, may_mark, next_slot}
 use Rattle.layer.specs.Reading.{put_more}
 use Rattle.layer.proofs.files.put.Goals as goal
 

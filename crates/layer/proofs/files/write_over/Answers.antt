@@ -1,8 +1,8 @@
 -- `write_over` meets its contract: what is given by the marks of all markers, and then by those of the
 -- cart's rocks, are the rows of the call in their order.
-use Rattle.std.proofs.Common.{◌≡◌, sym, subst}
+use Rattle.std.proofs.Common.{sym, subst}
 use Rattle.exchange.specs.Promise.{Area}
-use Rattle.layer.specs.Writing.{write_call}
+use Rattle.layer.proofs.Writing.{write_call}
 use Rattle.layer.proofs.files.write_over.Goals as goal
 
 pub returns : goal.returns
