@@ -17,8 +17,8 @@ use Rattle.field.specs.Hops.{HopAnswer, there, one, two, Answers}
 use Rattle.field.specs.declared.Finding.{Finding}
 use Rattle.field.specs.Checks.{Finds}
 use Rattle.field.specs.Workings.Sheet.{Marked}
-use Rattle.field.specs.Workings.Labelling.{label_sheet_draws}
-use Rattle.field.specs.Workings.SameLaws.{Alike, alike_back, assured_same, answers_same}
+use Rattle.field.proofs.Workings.Labelling.{label_sheet_draws}
+use Rattle.field.proofs.Workings.SameLaws.{Alike, alike_back, assured_same, answers_same}
 use Rattle.sheets.specs.Promise.{Fits}
 use Rattle.labels.specs.Promise.{Stones}
 use Rattle.regions.specs.Promise.{Regioned, found_number}

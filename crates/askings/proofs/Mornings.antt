@@ -11,8 +11,8 @@ use Rattle.field.specs.Distances.{Assured}
 use Rattle.field.specs.Hops.{HopAnswer, Answers}
 use Rattle.field.specs.Morning.{ShownClosed}
 use Rattle.field.specs.Workings.Sheet.{Marked}
-use Rattle.field.specs.Workings.MorningLaws
-use Rattle.field.specs.Workings.SameLaws.{Alike, alike_back, assured_same, answers_same}
+use Rattle.field.proofs.Workings.MorningLaws
+use Rattle.field.proofs.Workings.SameLaws.{Alike, alike_back, assured_same, answers_same}
 use Rattle.taking.specs.Promise.{Steady}
 use Rattle.calls.specs.Rules.{AnEndClosed}
 use Rattle.calls.specs.Answers.{no_hop, homeward}

@@ -7,8 +7,8 @@ use Rattle.std.proofs.Math.Pow.{split}
 use Rattle.std.specs.Int.Count.{ones}
 use Rattle.std.proofs.lemmas.Nat.{ones_cat}
 use Rattle.field.specs.Labels.{sum_to}
-use Rattle.field.specs.Workings.Counting.{sum_same}
-use Rattle.field.specs.Workings.MarkTally.{sum_append}
+use Rattle.field.proofs.Workings.Counting.{sum_same}
+use Rattle.field.proofs.Workings.MarkTally.{sum_append}
 use Rattle.bits.specs.Bit.{bit_at}
 use Rattle.bits.specs.Shifts.{bit_low}
 

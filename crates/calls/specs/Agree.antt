@@ -10,7 +10,7 @@ use Rattle.field.specs.Labels.{blank}
 use Rattle.field.specs.Refusals.{bad_size, bad_sheet, bad_list, no_drive}
 use Rattle.markers.specs.List.{slot, WellFormed, InUse, Entered, Cleared, in_use_of}
 use Rattle.markers.specs.Laws.Rising.{RisingIds, id_one}
-use Rattle.markers.specs.Laws.Moves.{entered_above}
+use Rattle.markers.proofs.Laws.Moves.{entered_above}
 use Rattle.calls.specs.Rules.{LentMap, lent_map, Sized, Formed, markers_in, RocksOf, ClosedBy, Shared}
 use Rattle.calls.specs.RuleLaws.{formed_holds}
 use Rattle.calls.specs.Answers.{Early, LabelsAfter, DistancesAfter, RegionAfter, RouteAfter}

@@ -8,7 +8,7 @@ use Rattle.field.specs.declared.Marker.{Marker}
 use Rattle.field.specs.Refusals.{no_slot}
 use Rattle.mapfile.specs.Raster.{RawFault, raw_short, raw_long, PlainFault, plain_foreign, plain_short, plain_long}
 use Rattle.mapfile.specs.File.{Format, plain, raw, RasterFault, MapFile, FileFault, no_letters, no_header, no_sides, no_raster, NoSlot}
-use Rattle.mapfile.specs.FileLaws.{file_fault_one, fault_no_map}
+use Rattle.mapfile.proofs.FileLaws.{file_fault_one, fault_no_map}
 use Rattle.calls.specs.Rules
 use Rattle.calls.specs.Rules.{LentMap}
 use Rattle.calls.specs.Answers.{ReadFault}

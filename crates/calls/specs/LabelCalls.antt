@@ -7,11 +7,11 @@ use Rattle.field.specs.Map.{OnMap, dist}
 use Rattle.field.specs.Labels.{between, Stable, LabelSheet}
 use Rattle.field.specs.Groups.{Linked, GroupsApart}
 use Rattle.field.specs.Geometry.Shapes.{Rectangle}
-use Rattle.field.specs.Geometry.Rectangles
-use Rattle.field.specs.Geometry.Apart
+use Rattle.field.proofs.Geometry.Rectangles
+use Rattle.field.proofs.Geometry.Apart
 use Rattle.field.specs.Workings.Sheet.{Marked, Draws}
-use Rattle.field.specs.Workings.Marks.{marked_dec}
-use Rattle.field.specs.Workings.Labelling.{label_sheet_draws}
+use Rattle.field.proofs.Workings.Marks.{marked_dec}
+use Rattle.field.proofs.Workings.Labelling.{label_sheet_draws}
 use Rattle.calls.specs.Rules
 use Rattle.calls.specs.Rules.{gives_one, LentMap, Sized, Formed, RocksOf, ClosedBy}
 use Rattle.calls.specs.RuleLaws.{none_gives, sheets_fit}

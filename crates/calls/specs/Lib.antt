@@ -1,5 +1,5 @@
--- The public calls: their refusals, what they answer and leave, one promise a call, and what is
--- proved of the promises.
+-- The public calls: their refusals, what they answer and leave, one promise a call, and the words
+-- and laws of what is proved of the promises.
 pub mod LentMap
 pub mod Rule
 pub mod Rules
@@ -13,31 +13,20 @@ pub mod AfterLaws
 pub mod SameLaws
 pub mod OutcomeLaws
 pub mod Exactly
-pub mod Outcome
 pub mod Sequences
 pub mod ListCalls
-pub mod HopCalls
 pub mod LabelCalls
 pub mod DriveCalls
 pub mod CheckCall
 pub mod SweepsCall
-pub mod RouteCalls
 pub mod Agree
-pub mod Unread
-pub mod CheckCalls
-pub mod LinesCalls
 pub mod StateCalls
-pub mod SweepsCalls
 pub mod HopByCalls
 pub mod MorningCalls
-pub mod Demands
 pub mod ClearanceCalls
-pub mod MoreClearance
 pub mod RefusalTable
-pub mod RefusalSettled
 pub mod Sharing
 pub mod ListRead
-pub mod RoundLaws
 pub mod RoundTrip
 pub mod PictureCalls
 pub mod PictureTrips

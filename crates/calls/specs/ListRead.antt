@@ -8,7 +8,7 @@ use Rattle.field.specs.Map.{most_markers}
 use Rattle.field.specs.Labels.{blank}
 use Rattle.markers.specs.List.{slot}
 use Rattle.mapfile.specs.File.{markers_of}
-use Rattle.mapfile.specs.RockLaws.{raster_crossings, marker_id, marker_on}
+use Rattle.mapfile.proofs.RockLaws.{raster_crossings, marker_id, marker_on}
 use Rattle.calls.specs.Rules.{Formed, markers_in}
 use Rattle.calls.specs.RuleLaws.{holds}
 use Rattle.calls.specs.Answers.{MapRead, read_map_lem}

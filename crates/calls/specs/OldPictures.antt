@@ -6,11 +6,11 @@ use Rattle.std.proofs.Math.Decide.{ℕ_discrete}
 use Rattle.field.specs.Map.{Sides, On, OnMap, number, at, no_distance, old_mark}
 use Rattle.field.specs.Limits.{old_mark_is}
 use Rattle.field.specs.Distances.{Way, Clear, at_closed, nearest, none, DistanceSheet}
-use Rattle.field.specs.Workings.GridLaws.{along_short}
+use Rattle.field.proofs.Workings.GridLaws.{along_short}
 use Rattle.field.specs.Workings.Sheet.{number_lt}
 use Rattle.picturefile.specs.Depths.{Renewed, marked, itself}
 use Rattle.picturefile.specs.Written.{OldWritten, SheetRenewed}
-use Rattle.picturefile.specs.WrittenLaws.{renewed, sheet_renewed}
+use Rattle.picturefile.proofs.WrittenLaws.{renewed, sheet_renewed}
 use Rattle.calls.specs.PictureCalls.{ReadSheetCall}
 use Rattle.calls.specs.PictureTrips.{read_old_sheet}
 use Rattle.calls.specs.declared.SheetRead.{SheetRead}

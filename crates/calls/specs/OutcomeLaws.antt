@@ -9,15 +9,16 @@ use Rattle.field.specs.Refusals.{no_slot, end_closed, no_drive, no_lines}
 use Rattle.field.specs.Labels.{Rock}
 use Rattle.field.specs.Distances.{Way}
 use Rattle.field.specs.CrossingLines.{DrivenBy}
-use Rattle.field.specs.Geometry.LinesLaws.{lines_one, lines_yes, driven_by_one}
+use Rattle.field.proofs.Geometry.LinesLaws.{lines_one, lines_yes, driven_by_one}
 use Rattle.field.specs.Workings.Tests.{test_dec}
-use Rattle.field.specs.Workings.Stamping.{rock_of, rock_of_lem, of_rock}
-use Rattle.field.specs.Workings.Labelling.{label_sheet_one}
-use Rattle.field.specs.Workings.DistanceLaws.{distance_sheet_one}
-use Rattle.field.specs.Workings.RegionLaws.{region_sheet_one}
-use Rattle.field.specs.Workings.HopLaws.{answers_one}
-use Rattle.field.specs.Workings.ChooserLaws.{driven_one}
-use Rattle.mapfile.specs.PackedLaws.{Tellable}
+use Rattle.field.specs.Workings.Stamping.{rock_of}
+use Rattle.field.proofs.Workings.Stamping.{rock_of_lem, of_rock}
+use Rattle.field.proofs.Workings.Labelling.{label_sheet_one}
+use Rattle.field.proofs.Workings.DistanceLaws.{distance_sheet_one}
+use Rattle.field.proofs.Workings.RegionLaws.{region_sheet_one}
+use Rattle.field.proofs.Workings.HopLaws.{answers_one}
+use Rattle.field.proofs.Workings.ChooserLaws.{driven_one}
+use Rattle.mapfile.proofs.PackedLaws.{Tellable}
 use Rattle.calls.specs.Answers.{Early, LabelsAfter, DistancesAfter, homeward, HopsNamed, RegionAfter, RouteAfter}
 use Rattle.calls.specs.LinesCall.{LinesTold, RegionSpared, LinesRegionAfter, JoinedDrive, JoinedAfter}
 use Rattle.calls.specs.declared.CrossingLines.{CrossingLines}

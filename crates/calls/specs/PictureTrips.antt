@@ -8,9 +8,9 @@ use Rattle.field.specs.Map.{Sides}
 use Rattle.field.specs.Distances.{Way, DistanceSheet}
 use Rattle.picturefile.specs.Picture.{PictureFile, PictureFault}
 use Rattle.picturefile.specs.Written.{PictureWritten, OldWritten, SheetRenewed}
-use Rattle.picturefile.specs.PictureLaws.{picture_one, picture_fault_one, fault_no_picture, fault_some}
-use Rattle.picturefile.specs.WrittenLaws
-use Rattle.picturefile.specs.WrittenLaws.{written_one, written_picture, old_picture_reads}
+use Rattle.picturefile.proofs.PictureLaws.{picture_one, picture_fault_one, fault_no_picture, fault_some}
+use Rattle.picturefile.proofs.WrittenLaws
+use Rattle.picturefile.proofs.WrittenLaws.{written_one, written_picture, old_picture_reads}
 use Rattle.calls.specs.Rules.{gives_one}
 use Rattle.calls.specs.RuleLaws.{Exactly, exactly, gives_none, sides_hold}
 use Rattle.calls.specs.OutcomeLaws.{refused_one}

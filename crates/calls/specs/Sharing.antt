@@ -13,7 +13,7 @@ use Rattle.field.specs.Map.{On, number, at}
 use Rattle.field.specs.Labels.{RockOn, Count}
 use Rattle.field.specs.Workings.Tests.{bit}
 use Rattle.field.specs.Workings.MarkCount.{marks, Among, marks_mono}
-use Rattle.field.specs.Workings.MarkTally.{count_sheet}
+use Rattle.field.proofs.Workings.MarkTally.{count_sheet}
 use Rattle.field.specs.Workings.Sheet.{number_lt, Crossing, crossing}
 use Rattle.markers.specs.List.{slot, WellFormed}
 use Rattle.markers.specs.Laws.Rocks.{Stands, Any}

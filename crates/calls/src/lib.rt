@@ -3,7 +3,6 @@
 // with zeros beside it.
 #![tactic(auto)]
 
-
 // The new count of a list, or the refusal.
 #[repr(C)]
 #[derive(Clone, Copy)]

@@ -12,7 +12,7 @@ use Rattle.field.specs.Map.{side, Sides}
 use Rattle.field.specs.Refusals.{no_slot}
 use Rattle.field.specs.Limits.{marker_slots, most_markers_is}
 use Rattle.mapfile.specs.File.{MapFile, FileFault, NoSlot}
-use Rattle.mapfile.specs.RockLaws.{raster_bits, raster_crossings}
+use Rattle.mapfile.proofs.RockLaws.{raster_bits, raster_crossings}
 use Rattle.reader.specs.declared.Reading.{Reading}
 use Rattle.reader.specs.declared.Reading.TheVariants.{Map, Refused}
 use Rattle.reader.specs.Promise.{Reads, MapTaken}

@@ -6,7 +6,7 @@ use Prim.Native.Nat.{ℕ, ◌*◌}
 use lib.ListN.{take}
 use Rattle.field.specs.Labels.{RockOn, Label, is_open, is_rock, is_shut}
 use Rattle.field.specs.Workings.Sheet.{Draws}
-use Rattle.field.specs.Workings.SameLaws.{Alike, open_same, closed_same, shut_same, count_alike, groups_same}
+use Rattle.field.proofs.Workings.SameLaws.{Alike, open_same, closed_same, shut_same, count_alike, groups_same}
 use Rattle.labels.specs.declared.Labelled.{Labelled}
 use Rattle.labels.specs.Promise.{Stones, Labels}
 use Rattle.chart.specs.Promise.{Picture}

@@ -4,11 +4,11 @@ use Rattle.std.specs.Prelude.{◌≡◌, List, ◌++◌, ◌⊎◌, ℕ, ◌+◌
 use Rattle.std.proofs.Common.{sym, ap, ap₂, ◌∙◌, inl, inr, arith, take-append-drop, ext_get_or, length-take-le}
 use Rattle.std.proofs.Math.Decide.{dec_lt}
 use Rattle.field.specs.Workings.Sheet.{Crossing, crossing}
-use Rattle.field.specs.Workings.Labelling.{label_one}
-use Rattle.field.specs.Workings.Counting.{count_one}
+use Rattle.field.proofs.Workings.Labelling.{label_one}
+use Rattle.field.proofs.Workings.Counting.{count_one}
 use Rattle.field.specs.Map.{most_markers}
 use Rattle.mapfile.specs.File.{FileRock, MapFile, NoSlot, markers_of}
-use Rattle.mapfile.specs.FileLaws.{map_file_one, file_fault_one, fault_no_map}
+use Rattle.mapfile.proofs.FileLaws.{map_file_one, file_fault_one, fault_no_map}
 use Rattle.printing.specs.PrintLaws.{printed_one, line_one}
 use Rattle.chart.specs.Promise.{
   Sign,

@@ -11,16 +11,18 @@ use Rattle.field.specs.Labels.{sum_to, RockOn, Closed, closed_on_map, closed_sta
 use Rattle.field.specs.Groups.{Groups}
 use Rattle.field.specs.Workings.Tests.{bit, test_dec}
 use Rattle.field.specs.Workings.Sheet.{Draws, lit, west_of, south_of, around, row, rows_from, sheet}
-use Rattle.field.specs.Workings.Closing.{closing, until, sweep, next, marks, closing_draws}
-use Rattle.field.specs.Workings.Stamping.{stamp, rock_of, stands, stamp_draws}
-use Rattle.field.specs.Workings.Labelling.{labelling, labels_from, labelling_labels, alone, shut_looks}
-use Rattle.field.specs.Workings.Counting.{tally, count_marks, count_tests}
-use Rattle.field.specs.Workings.Corners.{corner_of, groups_of, groups_look}
+use Rattle.field.specs.Workings.Closing.{closing, until, sweep, next, marks}
+use Rattle.field.proofs.Workings.Closing.{closing_draws}
+use Rattle.field.specs.Workings.Stamping.{stamp, rock_of, stands}
+use Rattle.field.proofs.Workings.Stamping.{stamp_draws}
+use Rattle.field.proofs.Workings.Labelling.{labelling, labels_from, labelling_labels, alone, shut_looks}
+use Rattle.field.proofs.Workings.Counting.{tally, count_marks, count_tests}
+use Rattle.field.proofs.Workings.Corners.{corner_of, groups_of, groups_look}
 use Rattle.mapfile.specs.Header.{Blank, space, feed, no_items, blank_item, Separator, most_digits, value_from, Number, Header, last_blank_lem, next_number_lem}
 use Rattle.mapfile.specs.Raster.{Digits}
 use Rattle.mapfile.specs.File.{MapFile, plain, FileRock, markers_from, markers_of}
 use Rattle.mapfile.specs.PlainLaws.{AllDigits}
-use Rattle.mapfile.specs.RockLaws.{markers_of_lem}
+use Rattle.mapfile.proofs.RockLaws.{markers_of_lem}
 use Rattle.printing.specs.Printed as printed
 use Rattle.printing.specs.Printed.{Printed, Line, last_number}
 use Rattle.mapfile.specs.Following.{most_bytes}

@@ -16,7 +16,7 @@ use Rattle.field.specs.declared.Step.{Step}
 use Rattle.field.specs.Map.{On}
 use Rattle.field.specs.Reasons.{no_fault, ended_early, went_on}
 use Rattle.field.specs.Workings.Checking.{found, step_of, check_from}
-use Rattle.field.specs.Workings.StepLaws.{step_on}
+use Rattle.field.proofs.Workings.StepLaws.{step_on}
 use Rattle.sheets.specs.Promise.{Fits, Asked}
 use Rattle.checks.specs.Asking.{Numbered}
 

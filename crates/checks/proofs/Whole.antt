@@ -11,7 +11,7 @@ use Rattle.field.specs.Reasons.{wrong_start, is_closed, ended_early}
 use Rattle.field.specs.Checks.{Finds}
 use Rattle.field.specs.Workings.Sheet.{Marked, marked_draws}
 use Rattle.field.specs.Workings.Checking.{found, check_of}
-use Rattle.field.specs.Workings.CheckLaws.{checked}
+use Rattle.field.proofs.Workings.CheckLaws.{checked}
 use Rattle.sheets.specs.Promise.{Asked, Numbered}
 use Rattle.checks.proofs.Going.{Rest}
 

@@ -4,7 +4,7 @@ use mathlib.Core.Path.{◌≡◌}
 use Prim.Native.Nat.{ℕ, ◌+◌, ◌-◌, ◌<◌}
 use native.Mathlib.Omega.{arith}
 use Rattle.field.specs.Map.{On}
-use Rattle.field.specs.Geometry.Links.{moved}
+use Rattle.field.proofs.Geometry.Links.{moved}
 use Rattle.field.specs.Distances.{Way, eastward, southward, westward, northward, Along}
 use Rattle.distances.specs.Looking.{reach}
 

@@ -9,8 +9,8 @@ use Rattle.field.specs.Distances.{Way, eastward, southward, westward, northward,
 use Rattle.field.specs.Workings.Tests.{only}
 use Rattle.field.specs.Workings.Sheet.{Marked}
 use Rattle.field.specs.Workings.Looking.{axis_of}
-use Rattle.field.specs.Workings.ClearLaws.{clear_one}
-use Rattle.field.specs.Workings.AssuredLaws.{axis_looks}
+use Rattle.field.proofs.Workings.ClearLaws.{clear_one}
+use Rattle.field.proofs.Workings.AssuredLaws.{axis_looks}
 
 -- The answer is no where the thing asked does not hold.
 pub told_no : {P : Type 0} → ¬ P → ((false ≡ true) ↔ P)

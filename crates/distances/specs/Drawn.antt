@@ -7,8 +7,8 @@ use Rattle.field.specs.Map.{On}
 use Rattle.field.specs.Distances.{Way, Distances, DistanceSheet, Assured}
 use Rattle.field.specs.Workings.Sheet.{Marked, Draws}
 pub use Rattle.field.specs.Workings.Sheet.{marked_draws}
-use Rattle.field.specs.Workings.DistanceLaws.{distances_look, distance_sheet_looks}
-use Rattle.field.specs.Workings.AssuredLaws.{assured_looks}
+use Rattle.field.proofs.Workings.DistanceLaws.{distances_look, distance_sheet_looks}
+use Rattle.field.proofs.Workings.AssuredLaws.{assured_looks}
 
 module _ {w h : ℕ} {C : ℕ → ℕ → Type 0} {s : List ℕ} (D : Draws w h C s) where
   pub distances_drawn : {x y : ℕ} {four : List ℕ} → On w h x y → (Distances (Marked s w h) x y four ↔ Distances C x y four)

@@ -4,8 +4,8 @@ use Rattle.std.proofs.Common.{◌≡◌, ℕ, ◌+◌, ◌<◌, ◌≤◌, List,
 use Rattle.field.specs.Map.{On, dist}
 use Rattle.field.specs.Drives.{HasDrive, InRegion, InOut, is_in, is_out, RegionSheet}
 use Rattle.field.specs.Workings.Sheet.{Marked}
-use Rattle.field.specs.Workings.RegionLaws.{has_drive_in}
-use Rattle.field.specs.Workings.ChoosingLaws.{driven_looks}
+use Rattle.field.proofs.Workings.RegionLaws.{has_drive_in}
+use Rattle.field.proofs.Workings.ChoosingLaws.{driven_looks}
 use Rattle.calls.specs.Rules.{Gives, region_rows, drive_rows, route_rule}
 use Rattle.calls.specs.RuleLaws.{None, gives_none, gives_early, gives_later}
 use Rattle.calls.specs.AfterLaws.{region_made, route_kept}

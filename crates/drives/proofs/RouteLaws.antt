@@ -7,10 +7,10 @@ use Rattle.field.specs.Drives.{InRegion, RegionSheet}
 use Rattle.field.specs.Chooser.{Candidate}
 use Rattle.field.specs.Workings.Sheet.{Marked}
 use Rattle.field.specs.Workings.Reaching.{east_west_in, north_south_in, chosen_of, drive_of}
-use Rattle.field.specs.Workings.GridLaws.{Toward, along_row, along_column, dist_none}
-use Rattle.field.specs.Workings.RegionLaws.{has_drive_in, region_sheet_draws}
-use Rattle.field.specs.Workings.ChooserLaws.{candidate_toward, candidate_some, chosen_candidate}
-use Rattle.field.specs.Workings.ChoosingLaws.{chosen_looks}
+use Rattle.field.proofs.Workings.GridLaws.{Toward, along_row, along_column, dist_none}
+use Rattle.field.proofs.Workings.RegionLaws.{has_drive_in, region_sheet_draws}
+use Rattle.field.proofs.Workings.ChooserLaws.{candidate_toward, candidate_some, chosen_candidate}
+use Rattle.field.proofs.Workings.ChoosingLaws.{chosen_looks}
 use Rattle.drives.specs.declared.chooser.Choice.{Choice}
 use Rattle.regions.specs.Promise.{MayFind}
 use Rattle.regions.specs.Passes.{MayPass}

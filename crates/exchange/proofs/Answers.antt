@@ -7,8 +7,8 @@ use native.Mathlib.Omega.{arith}
 use lib.ListN.{length, drop}
 use Rattle.field.specs.Refusals.{success}
 use Rattle.field.specs.Workings.Sheet.{Marked}
-use Rattle.field.specs.Workings.Marks.{marked_dec}
-use Rattle.mapfile.specs.WrittenLaws.{written_one}
+use Rattle.field.proofs.Workings.Marks.{marked_dec}
+use Rattle.mapfile.proofs.WrittenLaws.{written_one}
 use Rattle.writer.specs.Promise.{Writes}
 use Rattle.writer.specs.declared.Wrote.{Wrote}
 use Rattle.writer.specs.declared.Wrote.TheVariants.{Bytes, Short}

@@ -1,42 +1,13 @@
--- Workings: functions on sheets that compute what document 01 defines, each with the theorem, both
--- ways, that it agrees with the meaning.
+-- Workings: functions on sheets that compute what document 01 defines. That each agrees with the
+-- meaning, both ways, is proved in proofs/.
 pub mod Tests
 pub mod Sheet
-pub mod Marks
 pub mod MarkCount
 pub mod Closing
 pub mod Stamping
-pub mod Labelling
-pub mod Counting
-pub mod MarkTally
-pub mod Corners
 pub mod Sweeping
 pub mod Looking
-pub mod AxisLaws
-pub mod GridLaws
-pub mod ClearLaws
-pub mod DistanceLaws
-pub mod AssuredLaws
-pub mod HopLaws
-pub mod AnswerLaws
-pub mod DriveLaws
-pub mod RegionLaws
 pub mod Reaching
-pub mod ReachLaws
 pub mod Placing
-pub mod PlacingLaws
 pub mod Checking
-pub mod StepLaws
-pub mod AcceptLaws
-pub mod ShortestLaws
-pub mod FaultLaws
-pub mod CheckLaws
-pub mod ChooserLaws
-pub mod ChoosingLaws
-pub mod Crossing
-pub mod CrossingLaws
-pub mod SameLaws
 pub mod MorningLaws
-pub mod RowTests
-pub mod RowLaws
-pub mod TableLaws

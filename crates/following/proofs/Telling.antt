@@ -16,12 +16,10 @@ use Rattle.mapfile.specs.HeaderCut.{probe}
 use Rattle.mapfile.specs.Raster.{row_bytes, RawFault, raw_short, raw_long}
 use Rattle.mapfile.specs.File.{raw, Letters}
 use Rattle.mapfile.specs.Following.{most_bytes, MapFirst, FirstFault, no_letters, no_header, cut_short, Shows, FirstRefused, FirstLong}
-use Rattle.mapfile.specs.FollowingOutcome.{map_stands, fault_stands, long_stands}
-use Rattle.mapfile.specs.Pieces.{
+use Rattle.mapfile.proofs.FollowingOutcome.{map_stands, fault_stands, long_stands}
+use Rattle.mapfile.specs.Pieces.{LettersCut, nothing, the_first}
+use Rattle.mapfile.proofs.Pieces.{
   shows_now,
-  LettersCut,
-  nothing,
-  the_first,
   letters_undecided,
   letters_shown,
   header_shown,

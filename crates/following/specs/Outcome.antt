@@ -3,7 +3,7 @@
 use Rattle.std.specs.Prelude.{◌≡◌, refl, Bool, true, false, List, [], ◌++◌, ℕ, ◌*◌, length, take, drop}
 use Rattle.std.proofs.Common.{ap, subst, append-nil, arith, length-append, length-drop}
 use Rattle.mapfile.specs.Following.{MapFirst, FirstMap, FirstLong, Outcome, a_map, refused, too_long, FirstIs}
-use Rattle.mapfile.specs.FollowingOutcome.{first_one, refused_fault}
+use Rattle.mapfile.proofs.FollowingOutcome.{first_one, refused_fault}
 use Rattle.following.specs.Promise.{Stands, MapRead, NotTold, FirstRead}
 use Rattle.following.specs.declared.First.{First}
 use Rattle.following.specs.declared.First.TheVariants.{Map, Refused, Long, Unended}

@@ -9,7 +9,8 @@ use native.Mathlib.Numerals.{add-one}
 use lib.ListN.{length, take, drop, set, length-set}
 use lib.Seq.{take-suc-set, take-length}
 use Rattle.mapfile.specs.HeaderWorking.{value, no_value, next_number, last_blank}
-use Rattle.mapfile.specs.HeadingWorking.{no_heading, heading_of, onto_all, HeadingTold, heading_told, onto_more, onto_none, onto_last, heading_more, heading_none, heading_last, heading_no_last}
+use Rattle.mapfile.specs.HeadingWorking.{no_heading, heading_of, onto_all, HeadingTold}
+use Rattle.mapfile.proofs.HeadingWorking.{heading_told, onto_more, onto_none, onto_last, heading_more, heading_none, heading_last, heading_no_last}
 use Rattle.header.specs.HeaderParts.{HeadRead}
 use Rattle.header.specs.declared.Head.TheVariants.{Body, Missing}
 

@@ -2,7 +2,7 @@
 use Rattle.std.specs.Prelude.{◌≡◌, refl, List, [], ◌∷◌, ℕ, ◌≤◌, length, get_or, drop}
 use Rattle.std.proofs.Common.{sym, subst}
 use Rattle.mapfile.specs.Header.{Header}
-use Rattle.mapfile.specs.FileWorking.{two_values}
+use Rattle.mapfile.proofs.FileWorking.{two_values}
 use Rattle.header.specs.HeaderParts.{HeadRead}
 use Rattle.header.specs.declared.Head.{Head}
 use Rattle.header.specs.declared.Head.TheVariants.{Body, Missing}

@@ -8,11 +8,11 @@ use mathlib.Core.Logic.{◌≢◌}
 use Prim.Native.Nat.{ℕ}
 use Rattle.field.specs.Hops.{HopAnswer, Answers}
 use Rattle.field.specs.Workings.Sheet.{Marked}
-use Rattle.field.specs.Workings.Marks.{marked_dec}
+use Rattle.field.proofs.Workings.Marks.{marked_dec}
 use Rattle.field.specs.Workings.Looking.{hop_to, east_west_of, north_south_of, answer_of, hop_of}
-use Rattle.field.specs.Workings.HopLaws.{row_permitted, column_permitted}
-use Rattle.field.specs.Workings.AnswerLaws.{east_west_permitted, north_south_permitted, hop_looks}
-use Rattle.field.specs.Geometry.WayHome.{home_hop}
+use Rattle.field.proofs.Workings.HopLaws.{row_permitted, column_permitted}
+use Rattle.field.proofs.Workings.AnswerLaws.{east_west_permitted, north_south_permitted, hop_looks}
+use Rattle.field.proofs.Geometry.WayHome.{home_hop}
 use Rattle.distances.specs.Drawn.{marked_draws}
 use Rattle.hops.specs.Promise.{MayHop}
 

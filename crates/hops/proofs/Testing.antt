@@ -11,9 +11,9 @@ use lib.Dec.{eqb}
 use borrow.Author.Tests.{lt-ltb, eq-eqb, ne_eqb}
 use Rattle.field.specs.Map.{On, at}
 use Rattle.field.specs.Workings.Sheet.{lit}
-use Rattle.field.specs.Workings.Marks.{marked_lit, unmarked_lit}
+use Rattle.field.proofs.Workings.Marks.{marked_lit, unmarked_lit}
 use Rattle.field.specs.Workings.Looking.{open_of, hop_to, east_west_of, north_south_of}
-use Rattle.field.specs.Workings.AxisLaws.{hop_below}
+use Rattle.field.proofs.Workings.AxisLaws.{hop_below}
 use Rattle.sheets.specs.Promise.{Asked}
 use Rattle.hops.specs.Asking.{AskedRow, AskedColumn}
 

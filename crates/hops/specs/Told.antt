@@ -7,7 +7,7 @@ use Rattle.field.specs.Labels.{Stable, Open}
 use Rattle.field.specs.Distances.{Assured}
 use Rattle.field.specs.Hops.{Permitted, There, HopAnswer, there, one, two, Answers, at_home, just, both}
 use Rattle.field.specs.Workings.Sheet.{Marked, Draws}
-use Rattle.field.specs.Workings.HopLaws.{ByRow, ByColumn, permitted_which, permitted_other, permitted_away}
+use Rattle.field.proofs.Workings.HopLaws.{ByRow, ByColumn, permitted_which, permitted_other, permitted_away}
 use Rattle.sheets.specs.Promise.{Fits}
 use Rattle.distances.specs.Drawn.{assured_drawn}
 use Rattle.hops.specs.Promise.{MayHop}

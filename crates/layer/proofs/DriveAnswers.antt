@@ -13,7 +13,7 @@ use Rattle.calls.specs.SameLaws.{region_after_same, route_after_same, region_row
 use Rattle.calls.specs.SameLaws.{lines_region_after_same, joined_after_same, lines_drive_rows_same}
 use Rattle.calls.specs.Calls.{RegionCall, DriveCall, RouteCall}
 use Rattle.calls.specs.LinesCall.{LinesDriveCall, lines_drive_rows}
-use Rattle.calls.specs.RouteCalls.{drive_part}
+use Rattle.calls.proofs.RouteCalls.{drive_part}
 use Rattle.askings.specs.Promise.{ClosedOn, MayDrive, RegionRest, DriveRest, RouteRest, LinesDriveRest}
 use Rattle.judging.specs.Judging.{OneFit}
 use Rattle.layer.specs.Prepared.{Prepared}

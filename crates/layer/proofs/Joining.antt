@@ -13,7 +13,7 @@ use lib.ListN.{length}
 use Rattle.field.specs.Map.{Sides}
 use Rattle.field.specs.Refusals.{no_slot}
 use Rattle.field.specs.Labels.{RockOn}
-use Rattle.field.specs.Workings.SameLaws.{Alike, closed_same, label_sheet_same}
+use Rattle.field.proofs.Workings.SameLaws.{Alike, closed_same, label_sheet_same}
 use Rattle.labels.specs.Promise.{Stamped, Stones}
 use Rattle.calls.specs.Rules
 use Rattle.calls.specs.Rules.{LentMap, Sized, OnIt, RocksOf, ClosedBy, Rule, Gives, Misfit}

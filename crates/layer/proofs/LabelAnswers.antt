@@ -8,7 +8,7 @@ use Prim.Native.Nat.{ℕ}
 use native.Mathlib.Omega.{arith}
 use lib.Dec.{lit<}
 use lib.ListN.{length}
-use Rattle.field.specs.Workings.SameLaws.{Alike, alike_back, distances_same, assured_same, sweeps_same}
+use Rattle.field.proofs.Workings.SameLaws.{Alike, alike_back, distances_same, assured_same, sweeps_same}
 use Rattle.calls.specs.declared.Labelling.{Labelling}
 use Rattle.calls.specs.declared.Swept.{Swept}
 use Rattle.calls.specs.declared.Four.{Four}

@@ -10,7 +10,7 @@ use Rattle.field.specs.Labels.{blank}
 use Rattle.field.specs.Limits.{most_crossings_is, crossings_few}
 use Rattle.markers.specs.List.{slot}
 use Rattle.mapfile.specs.File.{markers_of, NoSlot}
-use Rattle.mapfile.specs.FileLaws.{map_file_one}
+use Rattle.mapfile.proofs.FileLaws.{map_file_one}
 use Rattle.exchange.specs.Promise.{ReadFirst}
 use Rattle.layer.specs.Files.{MayPut, put_in}
 use Rattle.calls.specs.Calls.{ReadCall}

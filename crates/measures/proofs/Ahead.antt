@@ -9,7 +9,7 @@ use native.Mathlib.Omega.{arith}
 use Rattle.field.specs.Map.{side, no_distance, Sides, On, at}
 use Rattle.field.specs.Distances.{Way, Along, Clear, at_closed, nearest, none}
 use Rattle.field.specs.Workings.Sheet.{Marked}
-use Rattle.field.specs.Workings.ClearLaws.{no_distance_far, along_short}
+use Rattle.field.proofs.Workings.ClearLaws.{no_distance_far, along_short}
 use Rattle.distances.proofs.Ways.{along_start, along_join, along_rest}
 use Rattle.distances.proofs.Looking.{Bare, bare_first, bare_met, bare_past}
 

@@ -9,7 +9,7 @@ use native.Mathlib.Omega.{arith}
 use native.Mathlib.Decide.{ℕ_discrete}
 use lib.ListN.{length, get_or, set, length-set}
 use Rattle.field.specs.Map.{On, number, at}
-use Rattle.field.specs.Geometry.Links.{moved}
+use Rattle.field.proofs.Geometry.Links.{moved}
 use Rattle.measures.specs.Running.{nth, Nth, onward, RowMade, ColumnsRun}
 use Rattle.measures.proofs.Lines.{nth_lt, nth_one}
 use Rattle.measures.proofs.Filling.{stored, stored_other}

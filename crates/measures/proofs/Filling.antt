@@ -9,7 +9,7 @@ use lib.ListN.{length, get_or, set, length-set}
 use lib.Seq.{get_or-set_same, get_or-set_other}
 use Rattle.field.specs.Map.{On, number, at}
 use Rattle.field.specs.Workings.Sheet.{number_lt}
-use Rattle.field.specs.Workings.GridLaws.{number_one}
+use Rattle.field.proofs.Workings.GridLaws.{number_one}
 
 -- The places below i hold numbers of P, and the others what they held on u.
 pub record Filled (P : ℕ → ℕ → Type 0) (u v : List ℕ) (i : ℕ) : Type 0 where

@@ -12,7 +12,7 @@ use Rattle.field.specs.Map.{Sides, On, number, at}
 use Rattle.field.specs.Distances.{Way, Along, Clear}
 use Rattle.field.specs.Limits.{side_is}
 use Rattle.field.specs.Workings.Sheet.{Marked, number_lt}
-use Rattle.field.specs.Workings.GridLaws.{number_one}
+use Rattle.field.proofs.Workings.GridLaws.{number_one}
 use Rattle.sheets.specs.Promise.{Fits, Numbered}
 use Rattle.measures.specs.Fours.{AllAre}
 use Rattle.measures.specs.Running.{nth, Nth, on_to, Room, row_way, column_way, lead, placed, lowest_of, OnLine}

@@ -12,11 +12,11 @@ use Rattle.field.specs.Map.{On, OnMap, number, dist}
 use Rattle.field.specs.Labels.{Open}
 use Rattle.field.specs.Drives.{ShortestDrive, HasDrive}
 use Rattle.field.specs.Workings.Sheet.{Marked}
-use Rattle.field.specs.Workings.Marks.{marked_dec}
-use Rattle.field.specs.Workings.DriveLaws.{drive_head, drive_end}
-use Rattle.field.specs.Workings.ChooserLaws.{driven_shortest}
+use Rattle.field.proofs.Workings.Marks.{marked_dec}
+use Rattle.field.proofs.Workings.DriveLaws.{drive_head, drive_end}
+use Rattle.field.proofs.Workings.ChooserLaws.{driven_shortest}
 use Rattle.field.specs.CrossingLines.{OpenColumn, OpenRow, DrivenBy}
-use Rattle.field.specs.Geometry.Meeting as Meeting
+use Rattle.field.proofs.Geometry.Meeting as Meeting
 use Rattle.meetings.specs.Promise.{MayJoin}
 use Rattle.meetings.specs.Parts.{MayGo, Gone, MayGoBy}
 

@@ -10,7 +10,7 @@ use Rattle.field.specs.Map.{dist}
 use Rattle.field.specs.Refusals.{short_route}
 use Rattle.field.specs.CrossingLines.{Lines, HasLines}
 use Rattle.field.specs.Workings.Sheet.{Marked}
-use Rattle.field.specs.Geometry.LinesLaws.{lines_yes}
+use Rattle.field.proofs.Geometry.LinesLaws.{lines_yes}
 use Rattle.calls.specs.LinesCall.{RegionSpared, JoinedAfter}
 use Rattle.regions.specs.declared.Found.{Found}
 use Rattle.regions.specs.Promise.{Regioned}

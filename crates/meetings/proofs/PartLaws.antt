@@ -7,7 +7,7 @@ use Prim.Native.Nat.{ℕ}
 use native.Mathlib.Omega.{arith}
 use Rattle.field.specs.Workings.Sheet.{Marked}
 use Rattle.field.specs.Drives.{HasDrive, RegionSheet}
-use Rattle.field.specs.Workings.DriveLaws.{has_drive_open, has_drive_open_end}
+use Rattle.field.proofs.Workings.DriveLaws.{has_drive_open, has_drive_open_end}
 use Rattle.calls.specs.Rules.{gives_one, AnEndClosed, region_rows, drive_rows}
 use Rattle.calls.specs.RuleLaws.{None, none_gives}
 use Rattle.regions.specs.declared.Found.{Found}

@@ -4,7 +4,7 @@
 use Rattle.std.specs.Prelude.{◌≡◌, refl, List, ℕ}
 use Rattle.std.proofs.Common.{ap₂, arith}
 use Rattle.field.specs.Workings.Sheet.{Marked}
-use Rattle.field.specs.Geometry.LinesLaws.{lines_one, lines_yes}
+use Rattle.field.proofs.Geometry.LinesLaws.{lines_one, lines_yes}
 use Rattle.calls.specs.Rules.{gives_one}
 use Rattle.calls.specs.LinesCall.{lines_drive_rows}
 use Rattle.calls.specs.OutcomeLaws.{lines_region_after_one, joined_after_one}

@@ -10,7 +10,7 @@ use Rattle.std.proofs.Math.Dec.{ltb}
 use Rattle.std.proofs.Math.ListN.{get_or, length-append, get_or-append}
 use borrow.Author.Tests.{lt-ltb, le-ltb}
 use Rattle.field.specs.Workings.Sheet.{bit}
-use Rattle.mapfile.specs.PackedLaws.{bit_lowest, bit_higher}
+use Rattle.mapfile.proofs.PackedLaws.{bit_lowest, bit_higher}
 use Rattle.packing.specs.Packing.{rock_bit, packed, pieces}
 
 module _ (s : List ℕ) (from w x : ℕ) where

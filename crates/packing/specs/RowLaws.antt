@@ -9,7 +9,7 @@ use Rattle.field.specs.Map.{at}
 use Rattle.field.specs.Workings.Sheet.{Marked, Crossing, crossing}
 use Rattle.mapfile.specs.Raster.{row_bytes, packed_bit}
 use Rattle.mapfile.specs.Written.{PackedRows}
-use Rattle.mapfile.specs.PackedLaws.{packed_at}
+use Rattle.mapfile.proofs.PackedLaws.{packed_at}
 use Rattle.packing.specs.Packing.{rock_bit, byte_of, row_of, rows_of}
 use Rattle.packing.specs.PackingLaws.{rock_bit_marked, rock_bit_bare, rock_bit_past, rock_bit_small, packed_lt, packed_bit_lem, pieces_length, pieces_at}
 

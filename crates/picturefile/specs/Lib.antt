@@ -4,9 +4,4 @@ pub mod Picture
 pub mod Written
 pub mod Working
 pub mod DepthLaws
-pub mod WorkingLaws
-pub mod PictureLaws
-pub mod WrittenLaws
 pub mod Table
-pub mod Rows
-pub mod Settled

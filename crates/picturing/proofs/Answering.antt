@@ -31,8 +31,8 @@ use Rattle.picturefile.specs.Picture.{
   ends_early,
   goes_on,
 }
-use Rattle.picturefile.specs.WorkingLaws.{three_values}
-use Rattle.picturefile.specs.WrittenLaws.{written_one}
+use Rattle.picturefile.proofs.WorkingLaws.{three_values}
+use Rattle.picturefile.proofs.WrittenLaws.{written_one}
 use Rattle.sheets.specs.Promise.{Fits}
 use Rattle.calls.specs.RuleLaws.{holds, sides_hold}
 use Rattle.calls.specs.PictureCalls.{not_written, not_read, WriteSheetCall, ReadSheetCall}

@@ -13,7 +13,8 @@ use Rattle.field.specs.declared.Placing.{Placing}
 use Rattle.field.specs.Map.{Sides, at}
 use Rattle.field.specs.Limits.{side_is, crossing_slots, crossings_few}
 use Rattle.field.specs.Workings.Looking.{axis_of}
-use Rattle.field.specs.Workings.Placing.{adds, plus, total_to, total_next, AtMost, adds_most, total_most}
+use Rattle.field.specs.Workings.Placing.{adds, plus, total_to, AtMost}
+use Rattle.field.proofs.Workings.Placing.{total_next, adds_most, total_most}
 use Rattle.placing.specs.Counting.{largest, adds_at, row_of, row_at}
 
 -- What a crossing adds, from what stands there.

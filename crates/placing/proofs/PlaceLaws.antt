@@ -22,7 +22,7 @@ use Rattle.field.specs.Depots.{depot_x, depot_y, all_zero, Sizes, depot_closed, 
 use Rattle.field.specs.Workings.Tests.{and_split, and_both}
 use Rattle.field.specs.Workings.Sheet.{Marked, marked_draws}
 use Rattle.field.specs.Workings.Looking.{axis_of}
-use Rattle.field.specs.Workings.Placing.{total_sizes}
+use Rattle.field.proofs.Workings.Placing.{total_sizes}
 use Rattle.distances.specs.Assuring.{unmarked_open, row_looks, column_looks}
 use Rattle.regions.specs.Passes.{OnWay, Spanned}
 use Rattle.regions.specs.Reaching.{Reached}

@@ -3,7 +3,7 @@
 use Rattle.std.specs.Prelude.{◌≡◌, List, ℕ}
 use Rattle.field.specs.declared.Depot.{Depot}
 use Rattle.field.specs.declared.Placing.{Placing}
-use Rattle.field.specs.Geometry.DepotLaws.{placed_one}
+use Rattle.field.proofs.Geometry.DepotLaws.{placed_one}
 use Rattle.placing.specs.Promise.{Places}
 
 pub placing_one_outcome : {w h : ℕ} {s : List ℕ} {depot : Depot} {g g₁ f f₁ : List ℕ} {p q : Placing} → Places w h s depot g g₁ p

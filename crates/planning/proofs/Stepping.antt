@@ -9,7 +9,7 @@ use lib.Seq.{get_or-take}
 use Rattle.field.specs.declared.Placing.{Placing}
 use Rattle.mapfile.specs.File.{raw}
 use Rattle.mapfile.specs.Following.{refused}
-use Rattle.mapfile.specs.RockLaws.{raster_bits}
+use Rattle.mapfile.proofs.RockLaws.{raster_bits}
 use Rattle.following.specs.declared.First.{First}
 use Rattle.following.specs.declared.First.TheVariants.{Map, Refused}
 use Rattle.following.specs.Promise.{Stands, MapRead, FirstRead}

@@ -10,13 +10,14 @@ use Rattle.field.specs.Map.{On, Sides}
 use Rattle.field.specs.Labels.{Closed, RockOn}
 use Rattle.field.specs.Depots.{depot_x, depot_y}
 use Rattle.field.specs.Workings.Sheet.{Draws}
-use Rattle.field.specs.Workings.Marks.{decided, decided_draws}
-use Rattle.field.specs.Workings.Closing.{closing, closing_draws}
+use Rattle.field.proofs.Workings.Marks.{decided, decided_draws}
+use Rattle.field.specs.Workings.Closing.{closing}
+use Rattle.field.proofs.Workings.Closing.{closing_draws}
 use Rattle.field.specs.Workings.Placing.{plus}
-use Rattle.field.specs.Workings.PlacingLaws.{placed_of, placed_made}
+use Rattle.field.proofs.Workings.PlacingLaws.{placed_of, placed_made}
 use Rattle.mapfile.specs.File.{FileRock, raster_place}
 use Rattle.mapfile.specs.Following.{Outcome, a_map, refused, too_long, FirstIs}
-use Rattle.mapfile.specs.FollowingOutcome.{first_some}
+use Rattle.mapfile.proofs.FollowingOutcome.{first_some}
 use Rattle.printing.specs.Printed as printed
 use Rattle.printing.specs.Printed.{long, last_number, next_number_lem, RefusalLine}
 use Rattle.printing.specs.PrintSome.{printed_some}

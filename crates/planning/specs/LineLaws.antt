@@ -10,7 +10,7 @@ use Rattle.field.specs.Labels.{sum_to, one, count, Count}
 use Rattle.field.specs.Depots.{DrivenOnly, Stranded, HowPlaced, depot_closed, depot_open}
 use Rattle.field.specs.Workings.Sheet.{Draws, Marked}
 use Rattle.field.specs.Workings.Placing.{AtMost}
-use Rattle.field.specs.Workings.SameLaws.{Alike, alike_back, open_same, assured_same, has_drive_same, count_alike}
+use Rattle.field.proofs.Workings.SameLaws.{Alike, alike_back, open_same, assured_same, has_drive_same, count_alike}
 use Rattle.planning.specs.Promise.{DepotLine, MapLines}
 
 -- How many there are is at most how many crossings there are.

@@ -6,9 +6,9 @@ use Rattle.field.specs.Labels.{Closed}
 use Rattle.mapfile.specs.File.{FileRock}
 use Rattle.field.specs.declared.Depot.{Depot}
 use Rattle.field.specs.declared.Placing.{Placing}
-use Rattle.field.specs.Geometry.DepotLaws.{placed_one}
+use Rattle.field.proofs.Geometry.DepotLaws.{placed_one}
 use Rattle.mapfile.specs.Following.{FirstMap, FirstRefused, FirstLong, a_map, refused, too_long}
-use Rattle.mapfile.specs.FollowingOutcome.{first_one}
+use Rattle.mapfile.proofs.FollowingOutcome.{first_one}
 use Rattle.printing.specs.PrintLaws.{line_one, refusal_line_one}
 use Rattle.planning.specs.Promise.{
   most_maps,

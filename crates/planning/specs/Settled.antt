@@ -5,12 +5,12 @@ use Rattle.std.proofs.Math.Decide.{dec_le, dec_lt, ℕ_discrete}
 use Rattle.field.specs.Map.{side, most_markers, gap, no_distance}
 use Rattle.field.specs.Workings.Tests.{and_split}
 use Rattle.field.specs.Workings.Sheet.{lit, west_of, south_of, around, row, rows_from, sheet}
-use Rattle.field.specs.Workings.RowTests.{same, same_is}
+use Rattle.field.proofs.Workings.RowTests.{same, same_is}
 use Rattle.field.specs.Workings.Closing.{closing, until, sweep, next, marks}
 use Rattle.field.specs.Workings.Looking.{lit_along, look, clear_of, enough_of, axis_of, open_of, assured_of}
 use Rattle.field.specs.Workings.Reaching.{reach_next, reach}
 use Rattle.field.specs.Workings.Placing.{total_to}
-use Rattle.field.specs.Workings.PlacingLaws.{placed_of}
+use Rattle.field.proofs.Workings.PlacingLaws.{placed_of}
 use Rattle.mapfile.specs.Header.{most_digits}
 use Rattle.mapfile.specs.HeaderWorking.{blank_dec, line_end_dec, digit_dec, pick, end_items, after_items, after_comment, end_number, number_from, number_after, next_number, last_blank}
 use Rattle.mapfile.specs.HeadingWorking.{lastly, onto, and_then, heading_of}
@@ -18,9 +18,10 @@ use Rattle.mapfile.specs.Raster.{row_bytes, packed_bit}
 use Rattle.mapfile.specs.RasterWorking.{raw_bits}
 use Rattle.mapfile.specs.File.{raster_place, markers_from, markers_of}
 use Rattle.mapfile.specs.FileWorking.{sides_dec, after_two}
-use Rattle.mapfile.specs.Pieces.{piece_some, header_piece, raster_piece, letters_cut_dec}
+use Rattle.mapfile.specs.Pieces.{letters_cut_dec}
+use Rattle.mapfile.proofs.Pieces.{piece_some, header_piece, raster_piece}
 use Rattle.mapfile.specs.Following.{most_bytes}
-use Rattle.mapfile.specs.FollowingOutcome.{first_some}
+use Rattle.mapfile.proofs.FollowingOutcome.{first_some}
 use Rattle.writer.specs.Digits.{digits_of}
 use Rattle.printing.specs.PrintSome.{digits_least, printed_some}
 use Rattle.planning.specs.Promise.{most_maps, Text}

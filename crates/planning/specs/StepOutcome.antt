@@ -7,7 +7,7 @@ use Rattle.planning.specs.declared.Run.{Run}
 use Rattle.planning.specs.declared.Next.{Next}
 use Rattle.planning.specs.declared.Next.TheVariants.{Map, Last, More}
 use Rattle.mapfile.specs.Following.{FirstRefused, FirstMap, Undecided}
-use Rattle.mapfile.specs.FollowingOutcome.{refused_fault}
+use Rattle.mapfile.proofs.FollowingOutcome.{refused_fault}
 use Rattle.printing.specs.Printed.{RefusalLine}
 use Rattle.printing.specs.PrintLaws.{refusal_number_one, refusal_not_long, line_not_refused, put_one}
 use Rattle.planning.specs.Promise.{most_maps, FourLine, Ends, all_read, bad_map, past_bytes, past_maps}

@@ -6,7 +6,7 @@ use Rattle.std.proofs.Common.{sym, ap, ◌∙◌, inl, inr, arith}
 use Rattle.field.specs.Map.{most_markers}
 use Rattle.field.specs.Refusals.{no_slot}
 use Rattle.mapfile.specs.File.{MapFile, markers_of, FileFault, NoSlot}
-use Rattle.mapfile.specs.FileLaws.{map_file_one, file_fault_one, fault_no_map}
+use Rattle.mapfile.proofs.FileLaws.{map_file_one, file_fault_one, fault_no_map}
 use Rattle.reader.specs.Promise.{MapTaken, Reads}
 use Rattle.reader.specs.declared.Reading.{Reading}
 use Rattle.reader.specs.declared.Reading.TheVariants.{Map, Refused}

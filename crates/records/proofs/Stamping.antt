@@ -5,7 +5,8 @@ use Rattle.std.proofs.Math.Decide.{dec_lt}
 use Rattle.field.specs.declared.Marker.{Marker}
 use Rattle.field.specs.Map.{On, at}
 use Rattle.markers.specs.List.{slot}
-use Rattle.markers.specs.Laws.Rocks.{Stands, rock_stands, stands_rock}
+use Rattle.markers.specs.Laws.Rocks.{Stands}
+use Rattle.markers.proofs.Laws.Rocks.{rock_stands, stands_rock}
 use Rattle.markers.specs.Laws.Stamping.{StandsBefore, Stamping, stamping_more, stamping_past}
 use Rattle.records.specs.Promise.{Stamps, StampedWith}
 use Rattle.records.specs.Steps.{Counts, Marks}

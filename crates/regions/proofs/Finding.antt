@@ -10,7 +10,7 @@ use lib.ListN.{get_or, get_or-eq_default}
 use Rattle.field.specs.Labels.{Open}
 use Rattle.field.specs.Drives.{HasDrive, InRegion, InOut, is_in, is_out, RegionSheet}
 use Rattle.field.specs.Workings.Sheet.{Marked, Crossing, crossing}
-use Rattle.field.specs.Workings.DriveLaws.{has_drive_open, has_drive_open_end}
+use Rattle.field.proofs.Workings.DriveLaws.{has_drive_open, has_drive_open_end}
 use Rattle.calls.specs.Rules.{AnEndClosed}
 use Rattle.calls.specs.AfterLaws.{region_kept, region_zeros, region_made}
 use Rattle.regions.specs.declared.Found.TheVariants.{EndClosed, Nowhere, Somewhere}

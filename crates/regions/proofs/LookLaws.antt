@@ -12,7 +12,7 @@ use borrow.Author.Tests.{ltb-true, lt-ltb, le-ltb, eq-eqb, ne_eqb}
 use Rattle.field.specs.Map.{On, number, at, Apart}
 use Rattle.field.specs.Workings.Tests.{off_looks}
 use Rattle.field.specs.Workings.Sheet.{Marked, bit, lit}
-use Rattle.field.specs.Workings.Marks.{lit_marked, marked_lit, or_right}
+use Rattle.field.proofs.Workings.Marks.{lit_marked, marked_lit, or_right}
 use Rattle.field.specs.Workings.Looking.{hop_to}
 use Rattle.field.specs.Workings.Reaching.{east_west_in, north_south_in}
 use Rattle.regions.specs.Passes.{MayPass, backed}

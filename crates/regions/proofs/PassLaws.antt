@@ -16,7 +16,7 @@ use Rattle.field.specs.Map.{On, number, at, Apart}
 use Rattle.field.specs.Workings.Sheet.{bit, lit, number_lt}
 use Rattle.field.specs.Workings.Looking.{hop_to}
 use Rattle.field.specs.Workings.Reaching.{east_west_in, north_south_in}
-use Rattle.field.specs.Workings.GridLaws.{Toward, along_row, along_column, toward_near, near_apart, number_one}
+use Rattle.field.proofs.Workings.GridLaws.{Toward, along_row, along_column, toward_near, near_apart, number_one}
 use Rattle.regions.specs.Passes.{backed, Pass}
 
 -- Looks on two sheets that agree give the same.

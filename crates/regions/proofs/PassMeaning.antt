@@ -13,12 +13,12 @@ use Rattle.field.specs.Map.{On, at, dist}
 use Rattle.field.specs.Labels.{Open}
 use Rattle.field.specs.Drives.{HasDrive, InOut, is_in, is_out}
 use Rattle.field.specs.Workings.Sheet.{Marked}
-use Rattle.field.specs.Workings.Marks.{and_split, and_both, or_split, or_right}
+use Rattle.field.proofs.Workings.Marks.{and_split, and_both, or_split, or_right}
 use Rattle.field.specs.Workings.Tests.{or_left}
 use Rattle.field.specs.Workings.Looking.{hop_to}
 use Rattle.field.specs.Workings.Reaching.{east_west_in, north_south_in}
-use Rattle.field.specs.Workings.GridLaws.{Toward, along_row, along_column, nearer_toward, toward_near, toward_nearer}
-use Rattle.field.specs.Workings.DriveLaws.{FirstHop, there, hop, has_drive_open, has_drive_step}
+use Rattle.field.proofs.Workings.GridLaws.{Toward, along_row, along_column, nearer_toward, toward_near, toward_nearer}
+use Rattle.field.proofs.Workings.DriveLaws.{FirstHop, there, hop, has_drive_open, has_drive_step}
 use Rattle.regions.specs.Passes.{Spanned, backed, Pass}
 use Rattle.regions.proofs.WayLaws.{way_turned, way_hop}
 use Rattle.regions.proofs.LookLaws.{east_west_tells, north_south_tells}

@@ -11,9 +11,9 @@ use Rattle.field.specs.Map.{On, number, at, dist}
 use Rattle.field.specs.Labels.{Open}
 use Rattle.field.specs.Drives.{HasDrive, InRegion, InOut, is_in, is_out, RegionSheet}
 use Rattle.field.specs.Workings.Sheet.{Marked}
-use Rattle.field.specs.Workings.GridLaws.{Toward, gap_turned, gap_detour, near_turned, toward_near, toward_nearer}
-use Rattle.field.specs.Workings.DriveLaws.{hop, has_drive_open, has_drive_turned, has_drive_step}
-use Rattle.field.specs.Workings.RegionLaws.{region_split, has_drive_in}
+use Rattle.field.proofs.Workings.GridLaws.{Toward, gap_turned, gap_detour, near_turned, toward_near, toward_nearer}
+use Rattle.field.proofs.Workings.DriveLaws.{hop, has_drive_open, has_drive_turned, has_drive_step}
+use Rattle.field.proofs.Workings.RegionLaws.{region_split, has_drive_in}
 use Rattle.regions.specs.Passes.{Spanned, Pass, free}
 use Rattle.regions.specs.Reaching.{Reached}
 use Rattle.sheets.specs.Promise.{Wiped}

@@ -11,7 +11,7 @@ use native.Mathlib.Decide.{dec_lt}
 use lib.ListN.{set}
 use Rattle.field.specs.Map.{On, number, at, gap}
 use Rattle.field.specs.Workings.Looking.{hop_to}
-use Rattle.field.specs.Workings.GridLaws.{Toward, along_row, along_column, gap_none}
+use Rattle.field.proofs.Workings.GridLaws.{Toward, along_row, along_column, gap_none}
 use Rattle.regions.specs.Promise.{MayFind}
 use Rattle.regions.specs.Passes.{MayPass, OnWay, InRow, Spanned, backed, Pass}
 use Rattle.regions.proofs.WayLaws.{way_start, way_lt, way_one, way_hop, way_farther, back_nearer}

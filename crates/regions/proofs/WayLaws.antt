@@ -7,7 +7,7 @@ use native.Mathlib.Omega.{arith}
 use borrow.Author.Tests.{lt-ltb, le-ltb}
 use Rattle.field.specs.Map.{gap}
 use Rattle.field.specs.Workings.Looking.{hop_to}
-use Rattle.field.specs.Workings.GridLaws.{Order, less, same, more, order, gap_none, gap_turned}
+use Rattle.field.proofs.Workings.GridLaws.{Order, less, same, more, order, gap_none, gap_turned}
 use Rattle.regions.specs.Passes.{OnWay}
 
 -- A hop towards d, from below it and from above it.

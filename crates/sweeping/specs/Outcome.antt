@@ -1,7 +1,7 @@
 -- Sweeping has one outcome: two that its promise allows are equal, the sheet and the number.
 use Rattle.std.specs.Prelude.{◌≡◌, List, ℕ}
-use Rattle.field.specs.SweepLaws.{sweeps_one}
-use Rattle.field.specs.Workings.Labelling.{label_sheet_one}
+use Rattle.field.proofs.SweepLaws.{sweeps_one}
+use Rattle.field.proofs.Workings.Labelling.{label_sheet_one}
 use Rattle.rows.specs.Sheets.{Stones}
 use Rattle.sweeping.specs.Promise.{Sweeping}
 

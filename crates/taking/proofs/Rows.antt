@@ -15,7 +15,7 @@ use lib.Seq.{length-take-le, get_or-take, get_or-drop}
 use borrow.Author.Tests.{lt-ltb, le-ltb}
 use Rattle.field.specs.Map.{On, at}
 use Rattle.field.specs.Workings.Sheet.{bit, lit, west_of, south_of, around}
-use Rattle.field.specs.Workings.Marks.{unmarked_lit, west_at_lem, south_at}
+use Rattle.field.proofs.Workings.Marks.{unmarked_lit, west_at_lem, south_at}
 use Rattle.field.specs.Workings.MorningLaws.{Kept}
 use Rattle.sheets.specs.Promise.{Fits}
 use Rattle.taking.specs.Faults.{shown_by, west_in, Good, GoodAt, IsRow}

@@ -7,7 +7,7 @@ use Rattle.field.specs.Map.{Sides, On}
 use Rattle.field.specs.Labels.{RockOn}
 use Rattle.field.specs.Workings.Sheet.{Draws, Crossing, crossing, number_lt}
 use Rattle.rows.specs.Sheets.{Stamped, Stones}
-use Rattle.field.specs.Workings.SameLaws.{Alike}
+use Rattle.field.proofs.Workings.SameLaws.{Alike}
 use Rattle.mapfile.specs.File.{raster_place, FileRock}
 use Rattle.mapfile.specs.Turned.{Turned}
 

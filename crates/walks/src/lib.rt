@@ -2,4 +2,3 @@
 // does not cover, are walked statement by statement. There is no code here, only definitions and
 // laws of walking.
 #![tactic(auto)]
-

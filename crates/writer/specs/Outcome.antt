@@ -5,10 +5,10 @@ use Rattle.std.specs.Prelude.{◌≡◌, refl, List, ◌↔◌, ℕ, length, tak
 use Rattle.std.proofs.Common.{sym, ap, ◌∙◌, arith, take_at}
 use Rattle.field.specs.Map.{On}
 use Rattle.field.specs.Workings.Sheet.{Marked}
-use Rattle.field.specs.Workings.Marks.{marked_dec}
+use Rattle.field.proofs.Workings.Marks.{marked_dec}
 use Rattle.mapfile.specs.File.{MapFile, FileRock}
 use Rattle.mapfile.specs.Written.{Written}
-use Rattle.mapfile.specs.WrittenLaws.{written_one, written_map}
+use Rattle.mapfile.proofs.WrittenLaws.{written_one, written_map}
 use Rattle.sheets.specs.Promise.{Fits}
 use Rattle.writer.specs.Promise.{Writes}
 use Rattle.writer.specs.declared.Wrote.{Wrote}

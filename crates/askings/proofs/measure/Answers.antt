@@ -4,7 +4,7 @@ use mathlib.Core.Path.{refl}
 use mathlib.Core.Logic.{inl, inr}
 use native.Mathlib.Omega.{arith}
 use Rattle.calls.specs.AfterLaws.{labels_kept, labels_made, distances_kept, distances_filled}
-use Rattle.field.specs.Workings.SameLaws.{distance_sheet_same}
+use Rattle.field.proofs.Workings.SameLaws.{distance_sheet_same}
 use Rattle.askings.proofs.Bridge.{early_of, marked_alike, labelled_fits}
 use borrow.Author.Rules.{rules}
 use Rattle.askings.proofs.measure.Goals as goal

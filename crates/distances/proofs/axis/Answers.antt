@@ -5,7 +5,7 @@ use native.Mathlib.Omega.{arith}
 use borrow.Author.Rules.{rules}
 use Rattle.field.specs.Map.{gap}
 use Rattle.field.specs.Workings.Looking.{enough_of}
-use Rattle.field.specs.Workings.AssuredLaws.{axis_level, axis_above, axis_below}
+use Rattle.field.proofs.Workings.AssuredLaws.{axis_level, axis_above, axis_below}
 use Rattle.distances.proofs.axis.Goals as goal
 
 pub returns-then-m-p : goal.returns-then-m-p

@@ -11,8 +11,8 @@ use lib.Bits.{or_lt}
 use Rattle.field.specs.Map.{On, number, at}
 use Rattle.field.specs.Labels.{Closed, rock, closed_on_map, closed_stable, smallest, Shut, RockOn, Label, is_open, is_rock, is_shut}
 use Rattle.field.specs.Geometry.Shapes.{Corner}
-use Rattle.field.specs.Geometry.Theorems.{groups_corners}
-use Rattle.field.specs.Workings.Counting.{tally, sum_same}
+use Rattle.field.proofs.Geometry.Theorems.{groups_corners}
+use Rattle.field.proofs.Workings.Counting.{tally, sum_same}
 use Rattle.bits.specs.Bit.{bit_at, Both, WestOf}
 use Rattle.bits.specs.Laws.{bit_le, bit_and_lem, without, bit_without, without_lt}
 use Rattle.bits.specs.Carries.{west_law}

@@ -5,7 +5,7 @@ use native.Mathlib.Omega.{arith}
 use native.Mathlib.Decide.{dec_lt, ℕ_discrete}
 use Rattle.field.specs.Map.{On}
 use Rattle.field.specs.Labels.{one, Count}
-use Rattle.field.specs.Workings.Counting.{tally, count_tally}
+use Rattle.field.proofs.Workings.Counting.{tally, count_tally}
 
 -- The bit n tells whether P.
 pub data Tells (P : Type 0) (n : ℕ) : Type 0 where

@@ -9,7 +9,7 @@ use lib.Seq.{ext_get_or}
 use borrow.Author.Tests.{lt-ltb, le-ltb}
 use Rattle.field.specs.Map.{On, number, at, Near, east, west, north, south}
 use Rattle.field.specs.Workings.Sheet.{lit, west_of, south_of, around}
-use Rattle.field.specs.Workings.Marks.{marked_lit, unmarked_lit}
+use Rattle.field.proofs.Workings.Marks.{marked_lit, unmarked_lit}
 use Rattle.sweeping.specs.Steps.{new_mark, back_of, old, before, Looked}
 
 pub old_kept : {v : ℕ} → v < new_mark → old v ≡ v

@@ -10,7 +10,7 @@ use lib.ListN.{length, get_or, set, length-set}
 use lib.Seq.{get_or-set_same, get_or-set_other}
 use Rattle.field.specs.Map.{On, number, at}
 use Rattle.field.specs.Workings.Sheet.{around}
-use Rattle.field.specs.Workings.GridLaws.{number_one}
+use Rattle.field.proofs.Workings.GridLaws.{number_one}
 use Rattle.field.specs.Workings.MarkCount.{marks, marks_set, marks_le_length}
 use Rattle.field.specs.Limits.{crossing_slots, crossings_few}
 use Rattle.sweeping.specs.Steps.{new_mark, old, before, Queued, Ready, Grows, Judged, JudgedAt, AllJudged}

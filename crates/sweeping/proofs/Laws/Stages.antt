@@ -13,10 +13,10 @@ use Rattle.field.specs.Map.{On, number, at, Near, Apart}
 use Rattle.field.specs.Limits.{crossing_slots}
 use Rattle.field.specs.Labels.{closed_on_map, RockOn, Label, is_open, is_rock, is_shut, LabelSheet}
 use Rattle.field.specs.Sweeps.{stays, closes, State, Rests, Sweeps}
-use Rattle.field.specs.SweepLaws.{state_closed, rests_closed}
-use Rattle.field.specs.Workings.GridLaws.{near_turned}
+use Rattle.field.proofs.SweepLaws.{state_closed, rests_closed}
+use Rattle.field.proofs.Workings.GridLaws.{near_turned}
 use Rattle.field.specs.Workings.Sheet.{Draws, around, Crossing, crossing}
-use Rattle.field.specs.Workings.Marks.{around_two, two_around}
+use Rattle.field.proofs.Workings.Marks.{around_two, two_around}
 use Rattle.field.specs.Workings.MarkCount.{marks, marks_mono, marks_le_length}
 use Rattle.rows.specs.Sheets.{Stamped, Stones}
 use Rattle.sweeping.specs.Steps.{shut_mark, new_mark, old, before, Queued, SweepsPart, Stepped, Gathered}

@@ -9,7 +9,7 @@ use native.Mathlib.Decide.{dec_lt, ℕ_discrete}
 use lib.ListN.{length, get_or, set, length-set, get_or-eq_default}
 use lib.Seq.{get_or-set_same, get_or-set_other}
 use Rattle.field.specs.Map.{On, number}
-use Rattle.field.specs.Workings.GridLaws.{number_one}
+use Rattle.field.proofs.Workings.GridLaws.{number_one}
 use Rattle.sweeping.specs.Steps.{shut_mark, new_mark, back_of, Queued, Grows, Judged, JudgedAt, AllJudged, Spreads, SpreadFrom, SweepsPart, SweptPart, Settles, Settled}
 use Rattle.sweeping.proofs.Laws.Before.{near_back}
 use Rattle.sweeping.proofs.Laws.Growing.{grows_refl, grows_trans, grows_ready, ready_few, grows_judged, grows_all_judged, judged_before, all_judged_before}

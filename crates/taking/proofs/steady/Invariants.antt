@@ -8,7 +8,8 @@ use Prim.Native.Nat.{ℕ, ◌+◌, ◌-◌, ◌<◌, ◌≤◌}
 use native.Mathlib.Omega.{arith}
 use native.Mathlib.Decide.{ℕ_discrete}
 use Rattle.field.specs.Limits.{side_number, side_is}
-use Rattle.field.specs.Workings.MorningLaws.{Kept, kept_steady, steady_kept}
+use Rattle.field.specs.Workings.MorningLaws.{Kept}
+use Rattle.field.proofs.Workings.MorningLaws.{kept_steady, steady_kept}
 use Rattle.taking.proofs.Rows.{zeros_long, zeros_all}
 use Rattle.taking.proofs.steady.Given as goal
 

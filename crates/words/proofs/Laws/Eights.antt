@@ -11,7 +11,7 @@ use lib.Bits.{bit_and, and_mask}
 use lib.ListN.{length, get_or, set, length-set}
 use lib.Seq.{get_or-set_same, get_or-set_other}
 use borrow.Author.Tests.{eqb-true}
-use Rattle.field.specs.Workings.Corners.{every, every_one}
+use Rattle.field.proofs.Workings.Corners.{every, every_one}
 use Rattle.bits.specs.Bit.{bit_at}
 use Rattle.bits.specs.Laws.{bit_le}
 use Rattle.words.specs.Words.{ZeroOne, byte_of}

@@ -1,7 +1,7 @@
 -- `counts::count` meets its contract. The invariant: the numbers are those of the rows passed.
 use mathlib.Core.Path.{◌≡◌, sym, ◌∙◌}
 use native.Mathlib.Omega.{arith}
-use Rattle.field.specs.Workings.Placing.{total_none}
+use Rattle.field.proofs.Workings.Placing.{total_none}
 use Rattle.placing.specs.Counting.{row_at}
 use Rattle.placing.proofs.CountLaws.{row_here, row_at_few, total_again, total_fits, map_few}
 use Rattle.placing.proofs.counts.count.Goals as goal

@@ -2,7 +2,7 @@
 -- passed.
 use mathlib.Core.Path.{◌≡◌, sym, ◌∙◌}
 use native.Mathlib.Omega.{arith}
-use Rattle.field.specs.Workings.Placing.{total_none}
+use Rattle.field.proofs.Workings.Placing.{total_none}
 use Rattle.placing.specs.Counting.{adds_at}
 use Rattle.placing.proofs.CountLaws.{adds_here, adds_few, total_again, total_fits, row_few}
 use Rattle.placing.proofs.counts.count_row.Goals as goal

@@ -1,7 +1,7 @@
 -- `label_bits` meets its contract: the bits turned onto the sheet stamp it with the map's rocks,
 -- and the labels mark the closed crossings.
-use Rattle.field.specs.Workings.Labelling.{label_sheet_draws}
-use Rattle.field.specs.Workings.SameLaws.{label_sheet_same}
+use Rattle.field.proofs.Workings.Labelling.{label_sheet_draws}
+use Rattle.field.proofs.Workings.SameLaws.{label_sheet_same}
 use Rattle.turning.specs.Stamping.{turned_stamped, turned_draws, stones_alike}
 use Rattle.planning.proofs.lines.label_bits.Goals as goal
 

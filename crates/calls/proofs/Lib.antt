@@ -1,0 +1,19 @@
+-- What is proved of the promises of the public calls.
+pub mod Outcome
+pub mod ListCalls
+pub mod HopCalls
+pub mod DriveCalls
+pub mod RouteCalls
+pub mod Unread
+pub mod CheckCalls
+pub mod LinesCalls
+pub mod StateCalls
+pub mod SweepsCalls
+pub mod HopByCalls
+pub mod MorningCalls
+pub mod Demands
+pub mod ClearanceCalls
+pub mod MoreClearance
+pub mod RefusalSettled
+pub mod RoundLaws
+pub mod RoundTrip
