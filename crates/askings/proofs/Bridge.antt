@@ -3,13 +3,13 @@
 -- marks is that answer over the closed crossings.
 use mathlib.Core.Path.{◌≡◌, refl, sym, subst, ◌∙◌}
 use mathlib.Core.Bool.{Bool, true, false, true≢false}
-use mathlib.Core.List.{List, [], ◌∷◌}
+use mathlib.Core.List.{List, ◌∷◌}
 use mathlib.Core.Logic.{◌↔◌, ◌⊎◌, inl, inr}
 use Prim.Native.Nat.{ℕ, ◌<◌, ◌≤◌}
 use native.Mathlib.Omega.{arith}
 use native.Mathlib.Decide.{ℕ_discrete, dec_le}
 use lib.ListN.{length}
-use Rattle.field.specs.Map.{Sides, dist}
+use Rattle.field.specs.Map.{Sides}
 use Rattle.field.specs.Refusals.{no_slot, end_closed, not_assured}
 use Rattle.field.specs.Labels.{Stable, closed_stable, LabelSheet}
 use Rattle.field.specs.Distances.{Assured}
@@ -29,12 +29,12 @@ use Rattle.meetings.specs.Promise.{Says, Joins, joined_number, joined_length, jo
 use Rattle.meetings.specs.declared.Met.{Met}
 use Rattle.meetings.specs.declared.Met.TheVariants.{No, Yes}
 use Rattle.meetings.specs.declared.Joined.{Joined}
-use Rattle.calls.specs.Rules.{Gives, AnEndClosed, assured_rows, hop_rows, region_rows, drive_rows}
+use Rattle.calls.specs.Rules.{Gives, AnEndClosed, region_rows, drive_rows}
 use Rattle.calls.specs.RuleLaws.{gives_reworded, gives_above, gives_none, holds}
 use Rattle.calls.specs.Parts.{before}
 use Rattle.calls.specs.Answers.{Early, no_assurance, no_hop, no_crossings, homeward}
 use Rattle.calls.specs.AfterLaws.{labels_kept, labels_made, region_kept, route_kept, lines_region_kept, joined_kept}
-use Rattle.calls.specs.SameLaws.{assured_rows_same, hop_rows_same, region_rows_same, drive_rows_same, region_after_same, route_after_same, finds_same}
+use Rattle.calls.specs.SameLaws.{region_rows_same, drive_rows_same, region_after_same, route_after_same, finds_same}
 use Rattle.calls.specs.SameLaws.{lines_drive_rows_same, lines_told_same, lines_region_after_same, joined_after_same}
 use Rattle.calls.specs.CheckCall.{no_check}
 use Rattle.calls.specs.LinesCall.{lines_drive_rows, no_lines_told, LinesTold}

@@ -1,11 +1,10 @@
 -- What is proved of the call that checks a drawn list: the refusals exactly, one outcome, no slot
 -- read past the count; a list is accepted exactly if it is a shortest drive, an accepted one lies
 -- in the region, and every drive that the layer makes is accepted.
-use Rattle.std.specs.Prelude.{◌≡◌, refl, List, [], ◌∷◌, ◌↔◌, ◌⊎◌, ℕ, ◌*◌, length, take}
-use Rattle.std.proofs.Common.{sym, ap, ◌∙◌, inl, inr, arith}
+use Rattle.std.specs.Prelude.{◌≡◌, refl, List, [], ◌↔◌, ◌⊎◌, ℕ, ◌*◌, length, take}
+use Rattle.std.proofs.Common.{sym, ◌∙◌, inl, inr, arith}
 use Rattle.std.proofs.Math.Decide.{ℕ_discrete}
 use Rattle.field.specs.declared.Marker.{Marker}
-use Rattle.field.specs.declared.Finding.{Finding}
 use Rattle.field.specs.Reasons.{no_fault}
 use Rattle.field.specs.Labels.{Open}
 use Rattle.field.specs.Drives.{ShortestDrive, InRegion}

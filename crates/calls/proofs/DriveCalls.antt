@@ -1,7 +1,7 @@
 -- Region and drive calls between open ends, on a map of document 01's size with fitting sheets and
 -- a well-formed list: of their rows only 9 and 10 can apply, and 9 does exactly where there is no
 -- shortest drive. A drive that is not refused is one.
-use Rattle.std.specs.Prelude.{◌≡◌, List, [], ◌∷◌, ◌↔◌, ◌⊎◌, ℕ, length, take}
+use Rattle.std.specs.Prelude.{◌≡◌, List, [], ◌∷◌, ◌↔◌, ◌⊎◌, ℕ, take}
 use Rattle.std.proofs.Common.{inl, inr, arith}
 use Rattle.field.specs.Refusals.{no_drive}
 use Rattle.field.specs.Labels.{Open}

@@ -1,7 +1,7 @@
 -- The hop call on a cart's way: at an assured place it is not refused, the crossings that it names
 -- are the permitted hops, and it says "there" exactly at home. So a journey is a sequence of
 -- permitted hops from an assured place.
-use Rattle.std.specs.Prelude.{◌≡◌, refl, true, List, [], ◌∷◌, ◌↔◌, ◌⊎◌, ℕ, ◌+◌, ◌*◌, ◌≤◌, length}
+use Rattle.std.specs.Prelude.{◌≡◌, refl, true, List, [], ◌↔◌, ◌⊎◌, ℕ, ◌*◌, length}
 use Rattle.std.proofs.Common.{sym, ap, subst₂, ◌∙◌, inl, inr, arith}
 use Rattle.field.specs.Distances.{Assured}
 use Rattle.field.specs.Hops.{Permitted, There, HopAnswer, Answers, at_home, just, both, Taken, none, hop}

@@ -8,7 +8,6 @@ use Rattle.field.specs.declared.Marker.{Marker}
 use Rattle.field.specs.Map.{most_markers}
 use Rattle.markers.specs.List.{slot, InUse, in_use_of, Same, Times}
 use Rattle.markers.specs.Promise.{marker}
-use Rattle.markers.specs.Reached
 use Rattle.markers.specs.Reached.{Reached}
 use Rattle.markers.proofs.Laws.Times.{times_some, times_one, times_fresh, entered_other, entered_once, cleared_other, cleared_gone}
 use Rattle.calls.specs.Rules

@@ -1,7 +1,7 @@
 -- "Slots past the count are never read": two lists that agree on the slots in use get the same
 -- answers and leave the same bytes. What a call says of a list it says of the markers in use, and
 -- of whether the count passes the list lent.
-use Rattle.std.specs.Prelude.{◌≡◌, List, [], ◌∷◌, ◌++◌, ◌⊎◌, ℕ, ◌+◌, ◌<◌, ◌≤◌, length, take, drop}
+use Rattle.std.specs.Prelude.{◌≡◌, List, [], ◌∷◌, ◌++◌, ℕ, ◌+◌, ◌≤◌, length, take, drop}
 use Rattle.std.proofs.Common.{sym, ap, ◌∙◌, inl, inr, arith, take_at}
 use Rattle.std.proofs.Math.Decide.{ℕ_discrete}
 use Rattle.field.specs.declared.Marker.{Marker}

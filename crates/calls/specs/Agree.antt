@@ -7,7 +7,7 @@ use Rattle.field.specs.declared.Marker.{Marker}
 use Rattle.field.specs.Map.{On}
 use Rattle.field.specs.Distances.{Way}
 use Rattle.field.specs.Labels.{blank}
-use Rattle.field.specs.Refusals.{bad_size, bad_sheet, bad_list, no_drive}
+use Rattle.field.specs.Refusals.{bad_size, bad_sheet, bad_list}
 use Rattle.markers.specs.List.{slot, WellFormed, InUse, Entered, Cleared, in_use_of}
 use Rattle.markers.specs.Laws.Rising.{RisingIds, id_one}
 use Rattle.markers.proofs.Laws.Moves.{entered_above}

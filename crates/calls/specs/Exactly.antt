@@ -1,12 +1,12 @@
 -- Document 01's table, call by call: "Exactly when". Each number that a call can give is given
 -- exactly where its row applies and no row with a lower number does; 0 exactly where none applies.
 -- Reading a file goes in its own order.
-use Rattle.std.specs.Prelude.{◌≡◌, List, ◌↔◌, ◌⊎◌, ℕ, length}
+use Rattle.std.specs.Prelude.{◌≡◌, List, ◌↔◌, ℕ, length}
 use Rattle.std.proofs.Common.{sym, subst, ◌∙◌, inl, inr, arith}
 use Rattle.std.proofs.Math.Decide.{ℕ_discrete}
 use Rattle.field.specs.declared.Marker.{Marker}
 use Rattle.field.specs.Refusals.{no_slot}
-use Rattle.mapfile.specs.Raster.{RawFault, raw_short, raw_long, PlainFault, plain_foreign, plain_short, plain_long}
+use Rattle.mapfile.specs.Raster.{raw_short, raw_long, plain_foreign, plain_short, plain_long}
 use Rattle.mapfile.specs.File.{Format, plain, raw, RasterFault, MapFile, FileFault, no_letters, no_header, no_sides, no_raster, NoSlot}
 use Rattle.mapfile.proofs.FileLaws.{file_fault_one, fault_no_map}
 use Rattle.calls.specs.Rules

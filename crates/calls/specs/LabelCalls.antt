@@ -4,7 +4,7 @@
 use Rattle.std.specs.Prelude.{◌≡◌, refl, List, [], ℕ, ◌*◌, ◌≤◌, length}
 use Rattle.std.proofs.Common.{arith}
 use Rattle.field.specs.Map.{OnMap, dist}
-use Rattle.field.specs.Labels.{between, Stable, LabelSheet}
+use Rattle.field.specs.Labels.{between, Stable}
 use Rattle.field.specs.Groups.{Linked, GroupsApart}
 use Rattle.field.specs.Geometry.Shapes.{Rectangle}
 use Rattle.field.proofs.Geometry.Rectangles

@@ -3,7 +3,6 @@ use Rattle.std.specs.Prelude.{List, ◌↔◌, ℕ, ◌<◌, ◌≤◌, length}
 use Rattle.field.specs.declared.Marker.{Marker}
 use Rattle.field.specs.Map.{most_markers}
 use Rattle.markers.specs.List.{InUse, Times}
-use Rattle.markers.specs.Reached
 use Rattle.markers.specs.Reached.{Reached}
 use Rattle.calls.specs.Rules.{LentMap, OnIt, Formed}
 

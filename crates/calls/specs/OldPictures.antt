@@ -1,6 +1,6 @@
 -- An old picture of distances is read as the distances: where no distance of the map is 255, the
 -- byte 255 was the mark alone, and it becomes the new one.
-use Rattle.std.specs.Prelude.{◌≡◌, List, ℕ, ◌*◌, ◌<◌, ◌≤◌, length, get_or}
+use Rattle.std.specs.Prelude.{◌≡◌, List, ℕ, ◌*◌, ◌≤◌, length}
 use Rattle.std.proofs.Common.{sym, subst, ◌∙◌, arith}
 use Rattle.std.proofs.Math.Decide.{ℕ_discrete}
 use Rattle.field.specs.Map.{Sides, On, OnMap, number, at, no_distance, old_mark}
@@ -10,7 +10,7 @@ use Rattle.field.proofs.Workings.GridLaws.{along_short}
 use Rattle.field.specs.Workings.Sheet.{number_lt}
 use Rattle.picturefile.specs.Depths.{Renewed, marked, itself}
 use Rattle.picturefile.specs.Written.{OldWritten, SheetRenewed}
-use Rattle.picturefile.proofs.WrittenLaws.{renewed, sheet_renewed}
+use Rattle.picturefile.proofs.WrittenLaws.{sheet_renewed}
 use Rattle.calls.specs.PictureCalls.{ReadSheetCall}
 use Rattle.calls.specs.PictureTrips.{read_old_sheet}
 use Rattle.calls.specs.declared.SheetRead.{SheetRead}

@@ -1,8 +1,8 @@
 -- What is proved of the two picture calls: one outcome each, the exact occasions of their refusals,
 -- that what is written reads back as the same sheet, of every sheet of sixteen-bit numbers, and
 -- that an old picture reads as its sheet with the new mark.
-use Rattle.std.specs.Prelude.{◌≡◌, refl, List, [], ◌∷◌, ◌++◌, ◌↔◌, ◌⊎◌, ℕ, ◌*◌, length, take, drop}
-use Rattle.std.proofs.Common.{sym, ap, subst, ◌∙◌, inl, inr, arith, take_at}
+use Rattle.std.specs.Prelude.{◌≡◌, List, ◌++◌, ◌↔◌, ℕ, ◌*◌, length, take, drop}
+use Rattle.std.proofs.Common.{sym, ap, subst, ◌∙◌, arith, take_at}
 use Rattle.std.proofs.Math.Decide.{ℕ_discrete}
 use Rattle.field.specs.Map.{Sides}
 use Rattle.field.specs.Distances.{Way, DistanceSheet}

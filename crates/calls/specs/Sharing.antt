@@ -1,7 +1,7 @@
 -- Two markers on one crossing, told by counting marks. Stamped one after the other, a marker on a
 -- crossing that bears no mark yet makes one mark more, and a marker on a marked crossing makes
 -- none. So there are as many marks as markers exactly where no two share a crossing.
-use Rattle.std.specs.Prelude.{◌≡◌, refl, List, [], ◌∷◌, ◌↔◌, ◌⊎◌, ltb, length, get_or, set, replicate}
+use Rattle.std.specs.Prelude.{◌≡◌, refl, List, [], ◌∷◌, ◌⊎◌, ltb, length, get_or, set, replicate}
 use Rattle.std.proofs.Common.{sym, ap, ◌∙◌, arith, add-one, lt-ltb, le-ltb}
 use Rattle.std.proofs.Math.Path.{subst}
 use Rattle.std.proofs.Math.Logic.{inl, inr}
@@ -15,7 +15,7 @@ use Rattle.field.specs.Workings.Tests.{bit}
 use Rattle.field.specs.Workings.MarkCount.{marks, Among, marks_mono}
 use Rattle.field.proofs.Workings.MarkTally.{count_sheet}
 use Rattle.field.specs.Workings.Sheet.{number_lt, Crossing, crossing}
-use Rattle.markers.specs.List.{slot, WellFormed}
+use Rattle.markers.specs.List.{slot}
 use Rattle.markers.specs.Laws.Rocks.{Stands, Any}
 use Rattle.markers.specs.Laws.Stamping.{Stamping, stamping_start, stamping_more}
 use Rattle.calls.specs.Rules.{Shared}

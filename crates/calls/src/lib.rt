@@ -1,6 +1,6 @@
-// The answers of the public calls, by value. Their promises stand in this crate's specs, with all
-// that is proved of them; the crates that compute the answers rest on it. A refusal is its number,
-// with zeros beside it.
+// The answers of the public calls, by value. Their promises stand in this crate's specs, and what
+// is proved of them there and in its proofs; the crates that compute the answers rest on it. A
+// refusal is its number, with zeros beside it.
 #![tactic(auto)]
 
 // The new count of a list, or the refusal.

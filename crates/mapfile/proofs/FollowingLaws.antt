@@ -1,7 +1,7 @@
 -- What bytes begin with is one: one map at most or one fault, and a map that stands first stands
 -- first whatever follows. The number of the fault is worked out from the bytes, 0 for a map, so
 -- that each fault is shown to have that number once.
-use Rattle.std.specs.Prelude.{◌≡◌, refl, List, [], ◌∷◌, ◌++◌, ℕ, ◌+◌, ◌*◌, ◌≤◌, length, get_or, take, drop}
+use Rattle.std.specs.Prelude.{◌≡◌, refl, List, [], ◌∷◌, ◌++◌, ℕ, ◌*◌, ◌≤◌, length, get_or, take, drop}
 use Rattle.std.proofs.Common.{sym, ap, subst, ◌∙◌, append_assoc, arith, length-append, take_at, drop_at}
 use Rattle.std.proofs.Math.Option.{Option, none, some}
 use Rattle.std.proofs.Math.Decide.{dec_lt}

@@ -1,13 +1,12 @@
 -- A test for each row of the table of small files, which the checker computes, and that a row which
 -- passes its test holds.
 use Rattle.std.specs.Prelude.{◌≡◌, refl, Bool, true, false, cond, not, ◌&&◌, ◌||◌, List, [], ◌∷◌, ◌++◌, ◌↔◌, ℕ, ◌+◌, ◌*◌, ◌-◌, ◌<◌, ◌≤◌, ltb, leb, eqb, length, get_or, take, drop}
-use Rattle.std.proofs.Common.{sym, subst, ◌∙◌, arith}
+use Rattle.std.proofs.Common.{subst, arith}
 use Rattle.std.proofs.lemmas.Bool.{false≢true}
 use Rattle.std.proofs.Math.ListN.{get_or-eq_default}
 use Rattle.std.proofs.Math.Decide.{dec_lt}
 use borrow.Author.Tests.{ltb-true, leb-true, eqb-true, eqb-false, not-true}
 use Rattle.field.specs.declared.Marker.{Marker}
-use Rattle.field.specs.Map.{On}
 use Rattle.field.specs.Limits.{tallest_some}
 use Rattle.field.specs.Labels.{Rock}
 use Rattle.field.specs.Table.{Place, markers_on, RocksOn}
@@ -16,7 +15,7 @@ use Rattle.field.proofs.Workings.Corners.{every, every_one, every_two}
 use Rattle.field.specs.Workings.Stamping.{rock_of}
 use Rattle.field.proofs.Workings.Stamping.{rock_of_lem, of_rock}
 use Rattle.field.proofs.Workings.RowTests.{same, same_is}
-use Rattle.mapfile.specs.Header.{Digit, Number, value_from, most_digits}
+use Rattle.mapfile.specs.Header.{Digit, value_from, most_digits}
 use Rattle.mapfile.specs.Raster.{row_bytes, packed_bit}
 use Rattle.mapfile.specs.File.{raw_letters, MapFile, FileRock, FileFault, markers_of}
 use Rattle.mapfile.specs.FileWorking.{Found, a_map, a_fault, file_found, FileTold}

@@ -1,9 +1,9 @@
 -- When bytes are a map of this width and height with these rocks, and which refusal a file gets
 -- otherwise.
-use Rattle.std.specs.Prelude.{◌≡◌, List, [], ◌∷◌, ◌++◌, ◌⊎◌, ℕ, zero, suc, ◌+◌, ◌*◌, ◌-◌, ◌/◌, ◌%◌, ◌<◌, ◌≤◌, length, get_or, take, drop}
+use Rattle.std.specs.Prelude.{◌≡◌, List, [], ◌∷◌, ◌++◌, ◌⊎◌, ℕ, zero, suc, ◌+◌, ◌*◌, ◌-◌, ◌/◌, ◌%◌, ◌<◌, length, get_or}
 use Rattle.field.specs.declared.Marker.{Marker}
 use Rattle.field.specs.Map.{Sides, On, most_markers, tallest}
-use Rattle.field.specs.Refusals.{bad_size, no_slot, bad_letters, bad_header}
+use Rattle.field.specs.Refusals.{bad_size, bad_letters, bad_header}
 use Rattle.mapfile.specs.Header.{Header}
 use Rattle.mapfile.specs.Raster.{RawRaster, PlainRaster, RawFault, PlainFault}
 

@@ -1,6 +1,6 @@
 -- The header's grammar, on lists of bytes: blanks, comments, separators, numbers. It is free of the
 -- format's letters and of how many numbers follow.
-use Rattle.std.specs.Prelude.{◌≡◌, List, [], ◌∷◌, ◌++◌, ℕ, suc, ◌+◌, ◌*◌, ◌-◌, ◌<◌, ◌≤◌, length, get_or}
+use Rattle.std.specs.Prelude.{◌≡◌, List, [], ◌∷◌, ◌++◌, ℕ, ◌+◌, ◌*◌, ◌-◌, ◌<◌, ◌≤◌, length, get_or}
 
 -- "A blank is a space, TAB, CR or LF."
 pub data Blank (b : ℕ) : Type 0 where

@@ -5,7 +5,7 @@ use Rattle.std.specs.Prelude.{◌≡◌, refl, List, [], ◌∷◌, ◌++◌, �
 use Rattle.std.proofs.Common.{sym, ap, ◌∙◌, arith, length-drop, take-append-drop, get_or-drop}
 use Rattle.std.proofs.Math.Decide.{dec_lt}
 use Rattle.std.proofs.Math.Seq.{take-length}
-use Rattle.mapfile.specs.Header.{Digit, Number, value_from}
+use Rattle.mapfile.specs.Header.{Digit, value_from}
 use Rattle.mapfile.specs.Written.{Plain}
 
 -- Every byte of the list is a digit.

@@ -1,6 +1,6 @@
 -- The two rasters. Each holds a bit for each crossing, 1 a rock, in raster order: "The first raster
 -- row is the northmost", each row from the west.
-use Rattle.std.specs.Prelude.{◌≡◌, List, [], ◌∷◌, ◌++◌, ℕ, suc, ◌+◌, ◌*◌, ◌-◌, ◌/◌, ◌%◌, ◌^◌, ◌<◌, ◌≤◌, length, get_or}
+use Rattle.std.specs.Prelude.{◌≡◌, List, [], ◌∷◌, ◌++◌, ℕ, ◌+◌, ◌*◌, ◌-◌, ◌/◌, ◌%◌, ◌^◌, ◌<◌, length, get_or}
 use Rattle.field.specs.Refusals.{bad_header, short_raster, long_raster}
 use Rattle.mapfile.specs.Header.{Blank}
 

@@ -1,6 +1,6 @@
 -- What writing gives: "P4", LF, width, space, height, LF and the rows, pad bits 0, with no leading
 -- zeros.
-use Rattle.std.specs.Prelude.{◌≡◌, List, [], ◌∷◌, ◌++◌, ℕ, zero, suc, ◌+◌, ◌*◌, ◌-◌, ◌/◌, ◌%◌, ◌^◌, ◌<◌, ◌≤◌, length, get_or}
+use Rattle.std.specs.Prelude.{◌≡◌, List, ◌∷◌, ◌++◌, ℕ, ◌+◌, ◌*◌, ◌-◌, ◌<◌, ◌≤◌, length, get_or}
 use Rattle.mapfile.specs.Header.{Number}
 use Rattle.mapfile.specs.Raster.{row_bytes, packed_bit}
 use Rattle.mapfile.specs.File.{raw_letters}

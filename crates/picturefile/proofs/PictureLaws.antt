@@ -1,7 +1,7 @@
 -- A file is one picture at most, whatever sheet is lent, and for a sheet it has one fault at most;
 -- with a fault it is no picture for that sheet. All three follow from the working, which sees one
 -- thing. And a file is a picture for a sheet or has a fault.
-use Rattle.std.specs.Prelude.{◌≡◌, ℕ, ◌*◌, length, get_or}
+use Rattle.std.specs.Prelude.{◌≡◌, ℕ, ◌*◌, get_or}
 use Rattle.std.proofs.Math.Path.{refl, subst}
 use Rattle.std.proofs.Common.{sym, ◌∙◌, arith}
 use mathlib.Core.List.{List, [], ◌∷◌, ◌++◌}
@@ -12,11 +12,9 @@ use Rattle.mapfile.proofs.HeadingWorking.{heading_told}
 use Rattle.mapfile.proofs.HeaderLaws.{headers_one}
 use Rattle.mapfile.specs.FileWorking.{after_two, TwoTold}
 use Rattle.mapfile.proofs.FileWorking.{two_told}
-use Rattle.picturefile.specs.declared.Depth.{Depth}
-use Rattle.picturefile.specs.Depths.{Drawn}
 use Rattle.picturefile.specs.DepthLaws.{depth_one, drawn_one}
 use Rattle.picturefile.specs.Picture.{picture_letters, Begins, PictureFile, PictureFault, no_letters, no_header, no_sides, other_largest, other_sheet, ends_early, goes_on}
-use Rattle.picturefile.specs.Working.{Seen, a_picture, a_fault, headed_seen, letters_seen, picture_seen}
+use Rattle.picturefile.specs.Working.{a_picture, a_fault, headed_seen, letters_seen, picture_seen}
 use Rattle.picturefile.proofs.WorkingLaws.{three_values, picture_seen_lem, fault_seen, PictureTold, begins_told}
 
 -- A file has one beginning.

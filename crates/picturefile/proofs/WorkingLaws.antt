@@ -8,7 +8,7 @@ use Rattle.field.specs.Map.{Sides, largest_value, old_largest}
 use Rattle.field.specs.Limits.{largest_is, old_largest_is}
 use Rattle.field.specs.Refusals.{bad_size, bad_sheet, bad_letters, bad_header, short_raster, long_raster, bad_largest}
 use Rattle.mapfile.specs.Header.{Header}
-use Rattle.mapfile.specs.HeaderWorking.{pick, pick_yes, pick_no}
+use Rattle.mapfile.specs.HeaderWorking.{pick_yes, pick_no}
 use Rattle.mapfile.specs.HeadingWorking.{Heading, heading, no_heading, heading_of, HeadingTold}
 use Rattle.mapfile.proofs.HeadingWorking.{heading_told, heading_found}
 use Rattle.mapfile.specs.FileWorking.{sides_dec, after_two, TwoTold}

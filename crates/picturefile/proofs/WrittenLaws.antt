@@ -1,18 +1,18 @@
 -- What writing gives is one list of bytes, and a picture by the grammar with the same sheet: what
 -- is written reads back as the same sheet, and what is read and written again is our writer's form
 -- of it. An old picture is a picture of its sheet with the new mark.
-use Rattle.std.specs.Prelude.{◌≡◌, refl, List, [], ◌∷◌, ◌++◌, ℕ, zero, suc, ◌+◌, ◌*◌, ◌-◌, ◌<◌, length, get_or}
+use Rattle.std.specs.Prelude.{◌≡◌, refl, List, [], ◌∷◌, ◌++◌, ℕ, zero, suc, ◌<◌, length, get_or}
 use Rattle.std.proofs.Common.{sym, ap, subst, ◌∙◌, append_assoc, arith, ext_get_or}
-use Rattle.field.specs.Map.{Sides, On, at, number, largest_value, old_largest}
+use Rattle.field.specs.Map.{Sides, On, at, number, largest_value}
 use Rattle.field.specs.Workings.Sheet.{number_lt}
-use Rattle.mapfile.specs.Header.{Blank, feed, space, no_items, blank_item, Separator, Number, Numbers, last_blank_lem, next_number_lem}
+use Rattle.mapfile.specs.Header.{feed, space, Number, Numbers, last_blank_lem, next_number_lem}
 use Rattle.mapfile.specs.File.{raster_place}
 use Rattle.mapfile.proofs.WrittenLaws.{blank_separator}
 use Rattle.mapfile.specs.PlainLaws.{plain_one}
 use Rattle.picturefile.specs.declared.Depth.TheVariants.{OneByte, TwoBytes}
 use Rattle.picturefile.specs.Depths.{Renewed, Drawn}
 use Rattle.picturefile.specs.DepthLaws.{renewed_one, renewed_of_lem, raster_one}
-use Rattle.picturefile.specs.Picture.{picture_letters, Begins, PictureFile}
+use Rattle.picturefile.specs.Picture.{Begins, PictureFile}
 use Rattle.picturefile.specs.Written.{Filed, PictureWritten, OldWritten, SheetRenewed}
 use Rattle.picturefile.specs.Working.{renewed_of}
 use Rattle.picturefile.proofs.PictureLaws.{picture_one}

@@ -3,7 +3,7 @@
 use Rattle.std.specs.Prelude.{◌≡◌, refl, List, ℕ, ◌+◌, ◌*◌, ◌-◌, ◌/◌, ◌<◌, length, get_or}
 use Rattle.std.proofs.Common.{sym, ap, subst, ◌∙◌, arith, ext_get_or}
 use Rattle.std.proofs.Math.Decide.{ℕ_discrete}
-use Rattle.field.specs.Map.{On, at, no_distance, largest_value, old_largest, old_mark}
+use Rattle.field.specs.Map.{On, at, no_distance, old_mark}
 use Rattle.field.specs.Limits.{largest_is, old_largest_is}
 use Rattle.field.specs.Workings.Sheet.{sheet_length, sheet_at, sheet_same, Crossing, crossing}
 use Rattle.mapfile.specs.File.{raster_place}

@@ -1,14 +1,14 @@
 -- Faults counted along a row: there are none so far exactly where each crossing passed is as it may
 -- be.
-use mathlib.Core.Path.{◌≡◌, refl, sym, ap, ◌∙◌}
+use mathlib.Core.Path.{◌≡◌, refl, sym, ap}
 use mathlib.Core.List.{List}
 use mathlib.Core.Logic.{◌↔◌}
-use Prim.Native.Nat.{ℕ, zero, suc, ◌+◌, ◌<◌, ◌≤◌}
+use Prim.Native.Nat.{ℕ, ◌+◌, ◌<◌, ◌≤◌}
 use native.Mathlib.Omega.{arith}
 use native.Mathlib.Decide.{ℕ_discrete}
 use native.Mathlib.Numerals.{add-one}
 use lib.ListN.{length, get_or}
-use Rattle.taking.specs.Faults.{Good, Judged, west_in, GoodAt, RowJudged}
+use Rattle.taking.specs.Faults.{Judged, west_in, GoodAt, RowJudged}
 
 module _ (south here north : List ℕ) where
   pub record Counted (faults x : ℕ) : Type 0 where

@@ -1,24 +1,21 @@
 -- Rows of a sheet. What a row's bytes show is what the sheet marks, so a crossing judged from its
 -- own row and those beside it is judged as the sheet has it. Past the edge nothing is marked.
 use mathlib.Core.Path.{◌≡◌, refl, sym, ap, ◌∙◌}
-use mathlib.Core.Bool.{Bool, true, false, ◌&&◌}
 use mathlib.Core.List.{List}
 use mathlib.Core.Logic.{◌↔◌}
 use Prim.Native.Nat.{ℕ, zero, suc, ◌+◌, ◌*◌, ◌-◌, ◌<◌, ◌≤◌}
 use native.Mathlib.Omega.{arith}
 use native.Mathlib.Decide.{dec_lt}
 use native.Mathlib.Nat.{mul-le-mul_right}
-use native.Mathlib.Numerals.{add-one}
-use lib.Dec.{ltb}
 use lib.ListN.{length, get_or, take, drop, replicate, length-drop, length-replicate, get_or-eq_default}
 use lib.Seq.{length-take-le, get_or-take, get_or-drop}
-use borrow.Author.Tests.{lt-ltb, le-ltb}
+use borrow.Author.Tests.{lt-ltb}
 use Rattle.field.specs.Map.{On, at}
-use Rattle.field.specs.Workings.Sheet.{bit, lit, west_of, south_of, around}
-use Rattle.field.proofs.Workings.Marks.{unmarked_lit, west_at_lem, south_at}
+use Rattle.field.specs.Workings.Sheet.{lit, west_of, south_of, around}
+use Rattle.field.proofs.Workings.Marks.{unmarked_lit, south_at}
 use Rattle.field.specs.Workings.MorningLaws.{Kept}
 use Rattle.sheets.specs.Promise.{Fits}
-use Rattle.taking.specs.Faults.{shown_by, west_in, Good, GoodAt, IsRow}
+use Rattle.taking.specs.Faults.{shown_by, west_in, GoodAt, IsRow}
 
 shown_none : shown_by 0 ≡ 0
 unfolding shown_by

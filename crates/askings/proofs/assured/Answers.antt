@@ -1,10 +1,6 @@
 -- `assured` meets its promise: the test of the ends tells refusal 8, and then the test of assurance
 -- yes or no, over the label sheet's marks.
-use mathlib.Core.Path.{refl, sym, ◌∙◌}
-use mathlib.Core.Logic.{inl}
-use Rattle.calls.specs.AfterLaws.{labels_kept}
-use Rattle.askings.proofs.Bridge.{early_of, labelled_fits, assured_before, assured_closed, assured_told}
-use borrow.Author.Rules.{rules}
+use Rattle.askings.proofs.Bridge.{labelled_fits, assured_before, assured_closed, assured_told}
 use Rattle.askings.proofs.assured.Goals as goal
 
 pub returns-then-n-ne-UNREFUSED : goal.returns-then-n-ne-UNREFUSED

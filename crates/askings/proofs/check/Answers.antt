@@ -1,7 +1,6 @@
 -- `check` meets its promise: the test of the ends tells refusal 8, and then what is found of the
 -- drawn list, over the label sheet's marks.
 use Rattle.askings.proofs.Bridge.{labelled_fits, check_before, check_closed, check_told}
-use borrow.Author.Rules.{rules}
 use Rattle.askings.proofs.check.Goals as goal
 
 pub returns-then-n-ne-UNREFUSED : goal.returns-then-n-ne-UNREFUSED

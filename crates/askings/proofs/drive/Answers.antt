@@ -1,7 +1,6 @@
 -- `drive` meets its promise: what asking for a drive makes over the label sheet's marks, as its
 -- number and values.
 use Rattle.askings.proofs.Bridge.{drive_before, drive_told}
-use borrow.Author.Rules.{rules}
 use Rattle.askings.proofs.drive.Goals as goal
 
 pub returns-then-n-ne-UNREFUSED : goal.returns-then-n-ne-UNREFUSED

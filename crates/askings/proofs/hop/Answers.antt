@@ -1,7 +1,6 @@
 -- `hop` meets its promise: the test of the ends tells refusal 8, then the test of assurance 11, and
 -- what is left is the hop's answer, all over the label sheet's marks.
 use Rattle.askings.proofs.Bridge.{marked_stable, labelled_fits, hop_before, hop_closed, hop_not_assured, hop_told}
-use borrow.Author.Rules.{rules}
 use Rattle.askings.proofs.hop.Goals as goal
 
 pub returns-then-n-ne-UNREFUSED : goal.returns-then-n-ne-UNREFUSED

@@ -1,7 +1,6 @@
 -- `hop_by` meets its promise: what was found before, then a fault of the sheet by itself, refusal
 -- 20, then as for a hop over the sheet's marks, which are what it shows closed.
 use Rattle.askings.proofs.Mornings.{by_before, by_fault, by_closed, by_not_assured, by_told, steady_stable}
-use borrow.Author.Rules.{rules}
 use Rattle.sheets.proofs.Told.{told_no, told_yes}
 use Rattle.askings.proofs.hop_by.Goals as goal
 

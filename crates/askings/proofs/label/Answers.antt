@@ -5,7 +5,6 @@ use mathlib.Core.Logic.{inl, inr}
 use native.Mathlib.Omega.{arith}
 use Rattle.calls.specs.AfterLaws.{labels_kept, labels_made}
 use Rattle.askings.proofs.Bridge.{early_of}
-use borrow.Author.Rules.{rules}
 use Rattle.askings.proofs.label.Goals as goal
 
 pub returns-then-n-ne-UNREFUSED : goal.returns-then-n-ne-UNREFUSED

@@ -1,7 +1,6 @@
 -- `lines` meets its promise: the test of the ends tells refusal 8, and then what the crossing-lines
 -- test says over the label sheet's marks, as its values.
 use Rattle.askings.proofs.Bridge.{labelled_fits, lines_before, lines_closed, lines_told_lem}
-use borrow.Author.Rules.{rules}
 use Rattle.askings.proofs.lines.Goals as goal
 
 pub returns-then-n-ne-UNREFUSED : goal.returns-then-n-ne-UNREFUSED

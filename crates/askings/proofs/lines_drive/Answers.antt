@@ -1,7 +1,6 @@
 -- `lines_drive` meets its promise: the test of the ends tells refusal 8, and then what asking for
 -- the drive by way of the lines makes over the label sheet's marks, as its number and values.
 use Rattle.askings.proofs.Bridge.{marked_stable, labelled_fits, lines_drive_before, lines_drive_closed, joined_told}
-use borrow.Author.Rules.{rules}
 use Rattle.askings.proofs.lines_drive.Goals as goal
 
 pub returns-then-n-ne-UNREFUSED : goal.returns-then-n-ne-UNREFUSED

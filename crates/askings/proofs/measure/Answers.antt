@@ -6,7 +6,6 @@ use native.Mathlib.Omega.{arith}
 use Rattle.calls.specs.AfterLaws.{labels_kept, labels_made, distances_kept, distances_filled}
 use Rattle.field.proofs.Workings.SameLaws.{distance_sheet_same}
 use Rattle.askings.proofs.Bridge.{early_of, marked_alike, labelled_fits}
-use borrow.Author.Rules.{rules}
 use Rattle.askings.proofs.measure.Goals as goal
 
 pub returns-then-n-ne-UNREFUSED : goal.returns-then-n-ne-UNREFUSED

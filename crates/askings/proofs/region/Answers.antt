@@ -4,7 +4,6 @@ use mathlib.Core.Logic.{inl}
 use Rattle.calls.specs.AfterLaws.{labels_kept, region_kept}
 use native.Mathlib.Omega.{arith}
 use Rattle.askings.proofs.Bridge.{early_of, region_told}
-use borrow.Author.Rules.{rules}
 use Rattle.askings.proofs.region.Goals as goal
 
 pub returns-then-n-ne-UNREFUSED : goal.returns-then-n-ne-UNREFUSED

@@ -4,7 +4,6 @@ use mathlib.Core.Path.{refl}
 use native.Mathlib.Omega.{arith}
 use lib.ListN.{length-take}
 use Rattle.askings.proofs.Bridge.{drove_within}
-use borrow.Author.Rules.{rules}
 use Rattle.askings.proofs.route.Goals as goal
 
 pub slice_bounds-result-end : goal.slice_bounds-result-end

@@ -4,7 +4,6 @@ use native.Mathlib.Omega.{arith}
 use Rattle.field.specs.Limits.{side_number}
 use Rattle.rows.specs.Layout.{sides_h}
 use Rattle.closing.proofs.Laws.Marks.{marks_start}
-use borrow.Author.Rules.{rules}
 use Rattle.closing.proofs.close.Goals as goal
 
 pub settle-requires : goal.settle-requires

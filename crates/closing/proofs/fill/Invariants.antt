@@ -1,10 +1,6 @@
 -- `closing::fill` meets its contract. The word grows at each turn, so it comes to rest.
-use mathlib.Core.Path.{◌≡◌, sym}
 use Prim.Native.Nat.{◌^◌, ◌-◌, ◌≤◌}
-use native.Mathlib.Omega.{arith}
-use Rattle.closing.specs.Steps.{Stepped, Steps, start, next, run}
-use Rattle.closing.proofs.Laws.Spreading.{beside}
-use borrow.Author.Rules.{rules}
+use Rattle.closing.specs.Steps.{Stepped, Steps}
 use Rattle.closing.proofs.fill.Given as goal
 
 abbrev pub invariant-loop-t : goal.invariant-loop-t

@@ -1,12 +1,8 @@
 -- `closing::grow_east` meets its contract. The loop's invariant: the words passed are grown.
 use mathlib.Core.Path.{◌≡◌}
 use Prim.Native.Nat.{ℕ, ◌+◌, ◌-◌, ◌*◌, ◌<◌, ◌≤◌}
-use native.Mathlib.Omega.{arith}
 use Rattle.closing.specs.Growth.{Sweeps}
-use Rattle.rows.specs.Layout.{words, sides_w}
-use Rattle.closing.proofs.Laws.Sweeping.{sweeps_start, sweeps_next, sweeps_all}
-use Rattle.rows.specs.Laws.{last_or_before}
-use borrow.Author.Rules.{rules}
+use Rattle.rows.specs.Layout.{words}
 use Rattle.closing.proofs.grow_east.Given as goal
 
 abbrev pub invariant-loop-j : goal.invariant-loop-j

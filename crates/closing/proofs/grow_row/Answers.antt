@@ -3,7 +3,6 @@
 use mathlib.Core.Logic.{inl}
 use native.Mathlib.Omega.{arith}
 use Rattle.closing.proofs.Laws.Sweeping.{sweeps_next, sweeps_all}
-use borrow.Author.Rules.{rules}
 use Rattle.closing.proofs.grow_row.Goals as goal
 
 pub grow_word-requires : goal.grow_word-requires

@@ -1,12 +1,9 @@
 -- `closing::grow_west` meets its contract. The loop's invariant: the words passed are grown.
-use mathlib.Core.Path.{◌≡◌}
-use Prim.Native.Nat.{ℕ, ◌+◌, ◌*◌, ◌<◌, ◌≤◌}
+use Prim.Native.Nat.{◌<◌}
 use native.Mathlib.Omega.{arith}
-use Rattle.closing.specs.Growth.{Sweeps}
-use Rattle.rows.specs.Layout.{words, sides_w}
+use Rattle.rows.specs.Layout.{sides_w}
 use Rattle.closing.proofs.Laws.Sweeping.{sweeps_start, sweeps_next, sweeps_all}
 use Rattle.rows.specs.Laws.{first_or_behind}
-use borrow.Author.Rules.{rules}
 use Rattle.closing.proofs.grow_west.Goals as goal
 
 pub overflow_add-j : goal.overflow_add-j

@@ -2,7 +2,6 @@
 -- grown.
 use native.Mathlib.Omega.{arith}
 use Rattle.closing.proofs.Laws.Growing.{sweeps_word, most_w, room}
-use borrow.Author.Rules.{rules}
 use Rattle.closing.proofs.grow_word.Goals as goal
 
 pub mask_at-mask-requires : goal.mask_at-mask-requires

@@ -3,7 +3,6 @@
 use native.Mathlib.Omega.{arith}
 use lib.ListN.{length-set}
 use Rattle.closing.proofs.Laws.Marks.{look_calm, look_still, look_grown}
-use borrow.Author.Rules.{rules}
 use Rattle.closing.proofs.look_row.Goals as goal
 
 pub returns-then-f-y-eq0 : goal.returns-then-f-y-eq0

@@ -1,11 +1,8 @@
 -- `closing::settle` meets its contract. Every sweep but the last sets a bit, so the words' sum
 -- rises, which is bounded; after one that changes nothing every word is still.
-use mathlib.Core.Path.{◌≡◌, refl, ◌∙◌}
+use mathlib.Core.Path.{refl, ◌∙◌}
 use native.Mathlib.Omega.{arith}
-use lib.ListN.{length}
-use Rattle.closing.specs.Growth.{Grown}
-use Rattle.closing.specs.Closes.{Marks}
-use Rattle.closing.proofs.Laws.Sweeping.{grown_refl, grown_trans, closes, left, left_less}
+use Rattle.closing.proofs.Laws.Sweeping.{grown_refl, grown_trans, closes, left_less}
 use Rattle.closing.proofs.settle.Goals as goal
 
 pub loop-w-init : goal.loop-w-init

@@ -1,11 +1,10 @@
 -- `closing::settle` meets its contract. Every sweep but the last sets a bit, so the words' sum
 -- rises, which is bounded; after one that changes nothing every word is still.
-use mathlib.Core.Path.{◌≡◌, refl, ◌∙◌}
-use native.Mathlib.Omega.{arith}
+use mathlib.Core.Path.{◌≡◌}
 use lib.ListN.{length}
 use Rattle.closing.specs.Growth.{Grown}
 use Rattle.closing.specs.Closes.{Marks}
-use Rattle.closing.proofs.Laws.Sweeping.{grown_refl, grown_trans, closes, left, left_less}
+use Rattle.closing.proofs.Laws.Sweeping.{left}
 use Rattle.closing.proofs.settle.Given as goal
 
 abbrev pub invariant-loop-w : goal.invariant-loop-w

@@ -1,10 +1,7 @@
 -- `closing::spread` meets its contract. The loop's invariant: what is set is reached, and a jump of
 -- d places goes along a stretch of d.
-use Prim.Native.Nat.{◌-◌, ◌≤◌}
 use native.Mathlib.Omega.{arith}
-use Rattle.closing.specs.Steps.{Spread}
-use Rattle.closing.proofs.Laws.Spreading.{East, West, east_start, west_start, east_next, west_next, spread_start, spread_next}
-use borrow.Author.Rules.{rules}
+use Rattle.closing.proofs.Laws.Spreading.{east_start, west_start, east_next, west_next, spread_start, spread_next}
 use Rattle.closing.proofs.spread.Goals as goal
 
 pub loop-d-init : goal.loop-d-init

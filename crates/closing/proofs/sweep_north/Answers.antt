@@ -1,13 +1,8 @@
 -- `closing::sweep_north` meets its contract. The loop's invariant: the rows passed are looked at.
-use mathlib.Core.Path.{◌≡◌, refl, ◌∙◌}
-use Prim.Native.Nat.{ℕ, ◌-◌, ◌*◌, ◌<◌, ◌≤◌}
+use mathlib.Core.Path.{refl, ◌∙◌}
 use native.Mathlib.Omega.{arith}
-use lib.ListN.{length}
-use Rattle.closing.specs.Growth.{Sweeps}
-use Rattle.closing.specs.Closes.{Marks}
 use Rattle.closing.proofs.Laws.Sweeping.{sweeps_start, sweeps_next, sweeps_all}
 use Rattle.rows.specs.Laws.{last_or_before}
-use borrow.Author.Rules.{rules}
 use Rattle.closing.proofs.sweep_north.Goals as goal
 
 pub loop-y-init : goal.loop-y-init

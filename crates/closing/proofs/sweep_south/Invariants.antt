@@ -1,13 +1,9 @@
 -- `closing::sweep_south` meets its contract. The loop's invariant: the rows passed are looked at.
-use mathlib.Core.Path.{◌≡◌, refl, ◌∙◌}
+use mathlib.Core.Path.{◌≡◌}
 use Prim.Native.Nat.{ℕ, ◌*◌, ◌<◌, ◌≤◌}
-use native.Mathlib.Omega.{arith}
 use lib.ListN.{length}
 use Rattle.closing.specs.Growth.{Sweeps}
 use Rattle.closing.specs.Closes.{Marks}
-use Rattle.closing.proofs.Laws.Sweeping.{sweeps_start, sweeps_next, sweeps_all}
-use Rattle.rows.specs.Laws.{first_or_behind}
-use borrow.Author.Rules.{rules}
 use Rattle.closing.proofs.sweep_south.Given as goal
 
 abbrev pub invariant-loop-y : goal.invariant-loop-y

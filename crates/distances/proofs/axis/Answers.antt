@@ -2,7 +2,6 @@
 use mathlib.Core.Path.{sym, ap, ◌∙◌}
 use Prim.Native.Nat.{ℕ}
 use native.Mathlib.Omega.{arith}
-use borrow.Author.Rules.{rules}
 use Rattle.field.specs.Map.{gap}
 use Rattle.field.specs.Workings.Looking.{enough_of}
 use Rattle.field.proofs.Workings.AssuredLaws.{axis_level, axis_above, axis_below}

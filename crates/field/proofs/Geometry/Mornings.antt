@@ -1,7 +1,7 @@
 -- The theorems of a morning sheet (Req 09), over any sheet taken: it shows closed every crossing
 -- that the rocks close, and what it shows closed is a stable set. So the way home holds over it as
 -- it does over the labelling, and no cart stands on a rock that stops it.
-use Rattle.std.specs.Prelude.{◌≡◌, List, ◌⊎◌, ℕ, ◌+◌, ◌*◌, ◌<◌, ◌≤◌, length, get_or, replicate}
+use Rattle.std.specs.Prelude.{◌≡◌, List, ◌⊎◌, ℕ, ◌+◌, ◌*◌, ◌≤◌, length, get_or, replicate}
 use Rattle.std.proofs.Common.{subst, inl, inr, arith}
 use Rattle.std.proofs.lemmas.List.{length-replicate, get_or-replicate}
 use Rattle.field.specs.Map.{Sides, On, at, Apart, dist}
@@ -9,7 +9,7 @@ use Rattle.field.specs.Labels.{Closed, rock, between, Stable, smallest, Label, i
 use Rattle.field.specs.Distances.{Assured}
 use Rattle.field.specs.Hops.{Permitted, There, Taken}
 use Rattle.field.specs.Morning.{ShownOpen, ShownClosed, LabelBytes, SheetTaken}
-use Rattle.field.specs.Workings.Sheet.{Marked, Draws, Crossing, crossing, number_lt}
+use Rattle.field.specs.Workings.Sheet.{Draws, Crossing, crossing, number_lt}
 use Rattle.field.proofs.Workings.Marks.{drawn_dec}
 use Rattle.field.proofs.Workings.Labelling.{label_sheet_draws}
 use Rattle.field.proofs.Workings.MorningLaws

@@ -3,11 +3,11 @@
 use Rattle.std.specs.Prelude.{◌≡◌, refl, List, [], ◌∷◌, ◌⊎◌, ℕ, zero, suc, ◌+◌, ◌-◌, ◌*◌, ◌<◌, length, get_or, drop}
 use Rattle.std.proofs.Common.{sym, ap, ◌∙◌, subst, inl, inr, arith, length-drop, drop-cons}
 use Rattle.std.proofs.Math.Decide.{ℕ_discrete, dec_lt, map_dec}
-use Rattle.field.specs.Map.{On, number, Near, dist}
+use Rattle.field.specs.Map.{number, Near, dist}
 use Rattle.field.specs.Labels.{Open}
 use Rattle.field.specs.Drives.{Drive, last, next, ShortestDrive}
 use Rattle.field.specs.Checks.{Has, Hop, WrongStart, OffTheMap, IsClosed, NotNeighbour, NotNearer, EndedEarly, WentOn, Sound, Accepted}
-use Rattle.field.specs.Workings.Sheet.{Crossing, crossing, number_lt}
+use Rattle.field.specs.Workings.Sheet.{crossing, number_lt}
 use Rattle.field.proofs.Workings.GridLaws.{OneApart, nearer, farther, hop_dist, dist_none, dist_zero, dist_near, number_one}
 
 -- Where a number other than 0 is not given, its rule does not apply.

@@ -1,7 +1,7 @@
 -- A sheet of the map's size has as many marks as there are crossings of what it draws: its marks
 -- counted from first to last are its marks counted row by row.
-use Rattle.std.specs.Prelude.{◌≡◌, refl, true, ◌&&◌, List, [], ◌∷◌, ℕ, zero, suc, ◌+◌, ◌*◌, ◌<◌, ltb, length, get_or}
-use Rattle.std.proofs.Common.{sym, ap, ◌∙◌, arith, lt-ltb}
+use Rattle.std.specs.Prelude.{◌≡◌, refl, List, [], ◌∷◌, ℕ, zero, suc, ◌+◌, ◌*◌, ◌<◌, ltb, length, get_or}
+use Rattle.std.proofs.Common.{ap, ◌∙◌, arith, lt-ltb}
 use Rattle.field.specs.Labels.{sum_to, Count}
 use Rattle.field.specs.Workings.Tests.{bit}
 use Rattle.field.specs.Workings.Sheet.{Draws, lit}

@@ -1,10 +1,10 @@
 -- A shortest drive from s to d is accepted: each of its crossings is an open neighbour of the one
 -- before and one hop nearer d, and it stands at d only as it ends. So no reason applies.
-use Rattle.std.specs.Prelude.{◌≡◌, refl, List, ◌∷◌, ℕ, suc, ◌+◌, ◌-◌, ◌<◌, length, get_or, drop}
+use Rattle.std.specs.Prelude.{◌≡◌, refl, List, ◌∷◌, ℕ, suc, ◌+◌, ◌<◌, length, get_or, drop}
 use Rattle.std.proofs.Common.{sym, ap, ◌∙◌, arith, length-drop, get_or-drop, length-take-le}
-use Rattle.field.specs.Map.{On, number, Near, dist}
+use Rattle.field.specs.Map.{number, Near, dist}
 use Rattle.field.specs.Drives.{Drive, last, next, ShortestDrive}
-use Rattle.field.specs.Checks.{Has, Hop, WrongStart, OffTheMap, IsClosed, NotNeighbour, NotNearer, EndedEarly, WentOn, Accepted}
+use Rattle.field.specs.Checks.{Has, Hop, Accepted}
 use Rattle.field.proofs.Workings.GridLaws.{dist_none, dist_detour}
 use Rattle.field.proofs.Workings.DriveLaws.{drive_from, drive_open, drive_open_end, drive_head, drive_end, drive_long, drive_split, drive_opens}
 use Rattle.field.proofs.Workings.AcceptLaws.{NoReason, no_reason_sound, has_one}

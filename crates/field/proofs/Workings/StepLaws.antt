@@ -14,8 +14,7 @@ use Rattle.field.specs.declared.Step.{Step}
 use Rattle.field.specs.Map.{On, number, Near, east, west, north, south, gap, dist}
 use Rattle.field.specs.Reasons.{no_fault, off_the_map, is_closed, not_a_neighbour, not_nearer}
 use Rattle.field.specs.Workings.Tests.{and_split, and_both, cond_cases}
-use Rattle.field.specs.Workings.Sheet.{Marked, Draws, marked_draws, Crossing, crossing, number_lt}
-use Rattle.field.proofs.Workings.GridLaws.{number_one}
+use Rattle.field.specs.Workings.Sheet.{Marked, Draws, marked_draws, crossing, number_lt}
 use Rattle.field.specs.Workings.Checking.{fault, step_to, neighbour_of, step_of}
 
 -- The crossing (a, b) of the map has the number n.

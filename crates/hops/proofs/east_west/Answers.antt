@@ -1,5 +1,4 @@
 -- `east_west` meets its contract: it makes the row's test.
-use borrow.Author.Rules.{rules}
 use Rattle.hops.proofs.Testing.{row_asked, row_level, row_off}
 use Rattle.hops.proofs.east_west.Goals as goal
 

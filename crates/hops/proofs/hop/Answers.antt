@@ -1,7 +1,6 @@
 -- `hop` meets its contract: its four ways out are the four answers of the two tests.
 use mathlib.Core.Path.{refl}
 use mathlib.Core.Bool.{true, false}
-use borrow.Author.Rules.{rules}
 use Rattle.hops.proofs.Answering.{row_elsewhere, column_elsewhere, answer}
 use Rattle.hops.proofs.hop.Goals as goal
 

@@ -1,5 +1,4 @@
 -- `north_south` meets its contract: it makes the column's test.
-use borrow.Author.Rules.{rules}
 use Rattle.hops.proofs.Testing.{column_asked, column_level, column_off}
 use Rattle.hops.proofs.north_south.Goals as goal
 

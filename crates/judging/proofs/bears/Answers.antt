@@ -1,6 +1,5 @@
 -- `bears` meets its contract: it compares the two ids.
 use mathlib.Core.Path.{refl}
-use native.Mathlib.Omega.{arith}
 use Rattle.judging.proofs.bears.Goals as goal
 
 pub returns-then-m-id : goal.returns-then-m-id

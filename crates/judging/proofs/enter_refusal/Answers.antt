@@ -1,7 +1,6 @@
 -- `enter_refusal` meets its contract: each finding has its number, or leads to the rows of a new
 -- marker.
 use mathlib.Core.Path.{refl}
-use borrow.Author.Rules.{rules}
 use Rattle.judging.proofs.enter_refusal.Goals as goal
 
 pub returns-in-BadSize : goal.returns-in-BadSize

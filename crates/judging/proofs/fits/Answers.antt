@@ -1,5 +1,4 @@
 -- `fits` meets its contract: the sides are within the limit where the product is made.
-use borrow.Author.Rules.{rules}
 use borrow.Author.Tests.{eqb-true, eq-eqb}
 use Rattle.sheets.proofs.Told.{refused, told_no, told_yes, crossings_fit}
 use Rattle.judging.proofs.fits.Goals as goal

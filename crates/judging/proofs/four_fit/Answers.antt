@@ -1,5 +1,4 @@
 -- `four_fit` meets its contract: the sheets are tested one by one.
-use borrow.Author.Rules.{rules}
 use Rattle.sheets.proofs.Told.{refused, told_no, told_yes}
 use Rattle.judging.proofs.four_fit.Goals as goal
 

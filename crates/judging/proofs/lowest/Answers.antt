@@ -2,8 +2,6 @@
 use mathlib.Core.Path.{refl}
 use mathlib.Core.Logic.{inl, inr, ⊎_elim}
 use native.Mathlib.Omega.{arith}
-use borrow.Author.Rules.{rules}
-use borrow.Author.Tests.{not-true}
 use Rattle.sheets.proofs.Told.{told_no, told_yes, yes_no, crossings_fit}
 use Rattle.judging.proofs.lowest.Goals as goal
 

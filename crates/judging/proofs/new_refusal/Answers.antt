@@ -4,7 +4,6 @@ use mathlib.Core.Bool.{Bool, true, false}
 use mathlib.Core.Logic.{inl, inr, ⊎_elim}
 use Prim.Native.Nat.{ℕ}
 use native.Mathlib.Omega.{arith}
-use borrow.Author.Rules.{rules}
 use Rattle.field.specs.Limits.{most_markers_is}
 use Rattle.sheets.proofs.Told.{told_no, told_yes}
 use Rattle.judging.proofs.new_refusal.Goals as goal

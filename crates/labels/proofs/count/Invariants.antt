@@ -1,16 +1,9 @@
 -- `labels::count` meets its contract. The loop's invariant: the numbers are those of the rows
 -- passed.
-use mathlib.Core.Path.{◌≡◌, sym}
 use Prim.Native.Nat.{◌-◌, ◌*◌, ◌≤◌}
-use native.Mathlib.Omega.{arith}
-use lib.Count.{ones}
-use Rattle.field.specs.Labels.{sum_to}
-use Rattle.labels.specs.Counting.{Counted, shut_at, corners_at}
+use Rattle.labels.specs.Counting.{Counted}
 use Rattle.field.specs.Limits.{side_number}
-use Rattle.bits.specs.Ones.{sum_none, sum_next}
-use Rattle.rows.specs.Layout.{words, words_of, sides_w, sides_h}
-use Rattle.rows.specs.Rows.{word_at}
-use borrow.Author.Rules.{rules}
+use Rattle.rows.specs.Layout.{words}
 use Rattle.labels.proofs.count.Given as goal
 
 abbrev pub invariant-loop-y : goal.invariant-loop-y

@@ -2,15 +2,14 @@
 -- numbers are those of the words passed.
 use mathlib.Core.Path.{◌≡◌, sym}
 use mathlib.Core.List.{List}
-use Prim.Native.Nat.{ℕ, ◌+◌, ◌-◌, ◌*◌, ◌<◌, ◌≤◌}
+use Prim.Native.Nat.{ℕ, ◌+◌}
 use native.Mathlib.Omega.{arith}
 use lib.Count.{ones}
 use Rattle.labels.specs.declared.Labelled.{Labelled}
 use Rattle.labels.specs.Counting.{CountedWord, CountedTo, shut_at, corners_at}
 use Rattle.bits.specs.Ones.{sum_none, sum_next}
-use Rattle.rows.specs.Layout.{words, words_of}
+use Rattle.rows.specs.Layout.{words_of}
 use Rattle.rows.specs.Rows.{word_at}
-use borrow.Author.Rules.{rules}
 use Rattle.labels.proofs.count_row.Goals as goal
 
 one_word : {n y : ℕ} {rock c : List ℕ} {r : Labelled} → n ≡ 0 + 1 → CountedWord y 0 rock c r → CountedTo n y rock c r

@@ -1,16 +1,8 @@
 -- `labels::count_row` meets its contract. One word is the whole row; the loop's invariant: the
 -- numbers are those of the words passed.
-use mathlib.Core.Path.{◌≡◌, sym}
-use mathlib.Core.List.{List}
-use Prim.Native.Nat.{ℕ, ◌+◌, ◌-◌, ◌*◌, ◌<◌, ◌≤◌}
-use native.Mathlib.Omega.{arith}
-use lib.Count.{ones}
-use Rattle.labels.specs.declared.Labelled.{Labelled}
-use Rattle.labels.specs.Counting.{CountedWord, CountedTo, shut_at, corners_at}
-use Rattle.bits.specs.Ones.{sum_none, sum_next}
-use Rattle.rows.specs.Layout.{words, words_of}
-use Rattle.rows.specs.Rows.{word_at}
-use borrow.Author.Rules.{rules}
+use Prim.Native.Nat.{◌+◌, ◌-◌, ◌*◌, ◌<◌, ◌≤◌}
+use Rattle.labels.specs.Counting.{CountedTo}
+use Rattle.rows.specs.Layout.{words}
 use Rattle.labels.proofs.count_row.Given as goal
 
 abbrev pub invariant-loop-j : goal.invariant-loop-j

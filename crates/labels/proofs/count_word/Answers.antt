@@ -1,5 +1,4 @@
 -- `labels::count_word` meets its contract. Each number is that of a word's bits.
-use borrow.Author.Rules.{rules}
 use Rattle.labels.proofs.count_word.Goals as goal
 
 pub returns : goal.returns

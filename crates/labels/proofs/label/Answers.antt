@@ -1,6 +1,5 @@
 -- `labels::label` meets its contract. Each of the three labels, by rows enough for the height.
 use native.Mathlib.Omega.{arith}
-use borrow.Author.Rules.{rules}
 use Rattle.labels.proofs.label.Goals as goal
 
 pub label_few-requires : goal.label_few-requires

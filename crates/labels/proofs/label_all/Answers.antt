@@ -3,7 +3,6 @@ use mathlib.Core.Path.{refl}
 use native.Mathlib.Omega.{arith}
 use Rattle.rows.specs.Layout.{slots, sides_h}
 use Rattle.rows.specs.Laws.{zeros_at}
-use borrow.Author.Rules.{rules}
 use Rattle.labels.proofs.label_all.Goals as goal
 
 pub read-requires : goal.read-requires

@@ -1,6 +1,5 @@
 -- `labels::label_read` meets its contract. The closed crossings are found, written and counted:
 -- together that is the promise.
-use borrow.Author.Rules.{rules}
 use Rattle.labels.proofs.Laws.Labels.{labelled, putting, ready_sweeping, ready_closes}
 use Rattle.labels.proofs.label_read.Goals as goal
 

@@ -5,7 +5,6 @@ use native.Mathlib.Omega.{arith}
 use Rattle.rows.specs.Layout.{stride}
 use Rattle.rows.specs.Laws.{zeros_at}
 use Rattle.labels.specs.Memory.{some}
-use borrow.Author.Rules.{rules}
 use Rattle.labels.proofs.label_some.Goals as goal
 
 pub read-requires : goal.read-requires

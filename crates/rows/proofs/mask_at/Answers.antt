@@ -1,6 +1,5 @@
 -- `rows::mask_at` meets its contract. The mask has as many bits as the word has crossings.
 use Rattle.rows.proofs.Laws.Widths.{mask_at}
-use borrow.Author.Rules.{rules}
 use Rattle.rows.proofs.mask_at.Goals as goal
 
 pub returns : goal.returns

@@ -1,11 +1,6 @@
 -- `rows::put` meets its contract. The loop's invariant: the rows passed have their labels.
 use Prim.Native.Nat.{ℕ, ◌-◌, ◌*◌, ◌<◌, ◌≤◌}
-use native.Mathlib.Omega.{arith}
 use Rattle.rows.specs.Sheets.{Wrote}
-use Rattle.rows.specs.Layout.{sides_w}
-use Rattle.rows.proofs.Laws.Writing.{wrote_start, wrote_next, wrote_all, putting_next}
-use Rattle.rows.specs.Laws.{last_or_before}
-use borrow.Author.Rules.{rules}
 use Rattle.rows.proofs.put.Given as goal
 
 abbrev pub invariant-loop-y : goal.invariant-loop-y

@@ -1,13 +1,9 @@
 -- `rows::put_row` meets its contract. One word is the whole row; the loop's invariant: the
 -- words passed have their labels.
-use mathlib.Core.Path.{◌≡◌}
-use Prim.Native.Nat.{ℕ, ◌+◌, ◌-◌, ◌*◌, ◌<◌, ◌≤◌}
 use native.Mathlib.Omega.{arith}
-use Rattle.rows.specs.Sheets.{Wrote}
-use Rattle.rows.specs.Layout.{words, sides_w}
+use Rattle.rows.specs.Layout.{sides_w}
 use Rattle.rows.proofs.Laws.Writing.{wrote_start, wrote_next, wrote_all, putting_next}
 use Rattle.rows.specs.Laws.{last_or_before}
-use borrow.Author.Rules.{rules}
 use Rattle.rows.proofs.put_row.Goals as goal
 
 pub put_word-requires : goal.put_word-requires

@@ -2,12 +2,8 @@
 -- words passed have their labels.
 use mathlib.Core.Path.{◌≡◌}
 use Prim.Native.Nat.{ℕ, ◌+◌, ◌-◌, ◌*◌, ◌<◌, ◌≤◌}
-use native.Mathlib.Omega.{arith}
 use Rattle.rows.specs.Sheets.{Wrote}
-use Rattle.rows.specs.Layout.{words, sides_w}
-use Rattle.rows.proofs.Laws.Writing.{wrote_start, wrote_next, wrote_all, putting_next}
-use Rattle.rows.specs.Laws.{last_or_before}
-use borrow.Author.Rules.{rules}
+use Rattle.rows.specs.Layout.{words}
 use Rattle.rows.proofs.put_row.Given as goal
 
 abbrev pub invariant-loop-j : goal.invariant-loop-j

@@ -4,7 +4,6 @@ use native.Mathlib.Omega.{arith}
 use Rattle.rows.specs.Layout.{sides_w}
 use Rattle.rows.proofs.Laws.Widths.{row_in}
 use Rattle.rows.proofs.Laws.Writing.{put_skip, put_done}
-use borrow.Author.Rules.{rules}
 use Rattle.rows.proofs.put_word.Goals as goal
 
 pub bounds-rock-i : goal.bounds-rock-i

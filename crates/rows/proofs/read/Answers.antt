@@ -1,11 +1,7 @@
 -- `rows::read` meets its contract. The loop's invariant: the rows passed are read.
-use mathlib.Core.Path.{◌≡◌, refl, ◌∙◌}
-use Prim.Native.Nat.{ℕ, ◌-◌, ◌<◌, ◌≤◌}
+use mathlib.Core.Path.{refl, ◌∙◌}
 use native.Mathlib.Omega.{arith}
-use lib.ListN.{length}
-use Rattle.rows.specs.Sheets.{Drawing}
 use Rattle.rows.proofs.Laws.Reading.{draw_start, draw_done}
-use borrow.Author.Rules.{rules}
 use Rattle.rows.proofs.read.Goals as goal
 
 pub loop-y-init : goal.loop-y-init

@@ -1,11 +1,8 @@
 -- `rows::read` meets its contract. The loop's invariant: the rows passed are read.
-use mathlib.Core.Path.{◌≡◌, refl, ◌∙◌}
+use mathlib.Core.Path.{◌≡◌}
 use Prim.Native.Nat.{ℕ, ◌-◌, ◌<◌, ◌≤◌}
-use native.Mathlib.Omega.{arith}
 use lib.ListN.{length}
 use Rattle.rows.specs.Sheets.{Drawing}
-use Rattle.rows.proofs.Laws.Reading.{draw_start, draw_done}
-use borrow.Author.Rules.{rules}
 use Rattle.rows.proofs.read.Given as goal
 
 abbrev pub invariant-loop-y : goal.invariant-loop-y

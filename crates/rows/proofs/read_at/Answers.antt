@@ -5,7 +5,6 @@ use lib.ListN.{length-set}
 use Rattle.rows.specs.Layout.{sides_w}
 use Rattle.rows.proofs.Laws.Widths.{row_in}
 use Rattle.rows.proofs.Laws.Reading.{draw_word, row_next}
-use borrow.Author.Rules.{rules}
 use Rattle.rows.proofs.read_at.Goals as goal
 
 pub width_at-n-requires : goal.width_at-n-requires

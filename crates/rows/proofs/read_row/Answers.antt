@@ -1,13 +1,9 @@
 -- `rows::read_row` meets its contract. The loop's invariant: the words passed have the row's bytes
 -- as bits.
-use mathlib.Core.Path.{◌≡◌, refl, ◌∙◌}
-use Prim.Native.Nat.{◌+◌, ◌-◌, ◌*◌, ◌<◌, ◌≤◌}
+use mathlib.Core.Path.{refl, ◌∙◌}
 use native.Mathlib.Omega.{arith}
-use lib.ListN.{length}
-use Rattle.rows.specs.Sheets.{Before, Drawing}
-use Rattle.rows.specs.Layout.{words, sides_w}
+use Rattle.rows.specs.Layout.{sides_w}
 use Rattle.rows.proofs.Laws.Reading.{draw_all, row_none, row_all}
-use borrow.Author.Rules.{rules}
 use Rattle.rows.proofs.read_row.Goals as goal
 
 pub read_at-requires : goal.read_at-requires

@@ -1,13 +1,10 @@
 -- `rows::read_row` meets its contract. The loop's invariant: the words passed have the row's bytes
 -- as bits.
-use mathlib.Core.Path.{◌≡◌, refl, ◌∙◌}
+use mathlib.Core.Path.{◌≡◌}
 use Prim.Native.Nat.{◌+◌, ◌-◌, ◌*◌, ◌<◌, ◌≤◌}
-use native.Mathlib.Omega.{arith}
 use lib.ListN.{length}
 use Rattle.rows.specs.Sheets.{Before, Drawing}
-use Rattle.rows.specs.Layout.{words, sides_w}
-use Rattle.rows.proofs.Laws.Reading.{draw_all, row_none, row_all}
-use borrow.Author.Rules.{rules}
+use Rattle.rows.specs.Layout.{words}
 use Rattle.rows.proofs.read_row.Given as goal
 
 abbrev pub invariant-loop-j : goal.invariant-loop-j

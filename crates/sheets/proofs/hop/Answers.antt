@@ -1,6 +1,5 @@
 -- `hop` meets its contract: up where d lies above p, and else down.
 use mathlib.Core.Path.{sym}
-use borrow.Author.Rules.{rules}
 use Rattle.field.proofs.Workings.AxisLaws.{hop_up, hop_down}
 use Rattle.sheets.proofs.hop.Goals as goal
 

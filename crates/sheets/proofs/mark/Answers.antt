@@ -1,7 +1,6 @@
 -- `mark` meets its contract: a crossing's number is below the number of crossings, which is the
 -- sheet's length.
 use native.Mathlib.Omega.{arith}
-use borrow.Author.Rules.{rules}
 use Rattle.field.specs.Workings.Sheet.{number_lt}
 use Rattle.sheets.proofs.mark.Goals as goal
 

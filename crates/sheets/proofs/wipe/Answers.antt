@@ -1,8 +1,6 @@
 -- `wipe` meets its contract: the loop keeps Wiping, counting i up to the length.
-use Prim.Native.Nat.{◌-◌}
 use native.Mathlib.Omega.{arith}
-use lib.ListN.{length}
-use Rattle.sheets.proofs.Wiping.{Wiping, wiping_start, wiping_more, wiping_end}
+use Rattle.sheets.proofs.Wiping.{wiping_start, wiping_more, wiping_end}
 use Rattle.sheets.proofs.wipe.Goals as goal
 
 pub loop-i-init : goal.loop-i-init

@@ -1,8 +1,7 @@
 -- `wipe` meets its contract: the loop keeps Wiping, counting i up to the length.
 use Prim.Native.Nat.{◌-◌}
-use native.Mathlib.Omega.{arith}
 use lib.ListN.{length}
-use Rattle.sheets.proofs.Wiping.{Wiping, wiping_start, wiping_more, wiping_end}
+use Rattle.sheets.proofs.Wiping.{Wiping}
 use Rattle.sheets.proofs.wipe.Given as goal
 
 abbrev pub invariant-loop-i : goal.invariant-loop-i

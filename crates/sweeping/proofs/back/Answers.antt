@@ -1,7 +1,6 @@
 -- `back` meets its contract: one less, or the end.
 use mathlib.Core.Path.{sym}
 use native.Mathlib.Omega.{arith}
-use borrow.Author.Rules.{rules}
 use Rattle.sweeping.proofs.Laws.Before.{back_none, back_some}
 use Rattle.sweeping.proofs.back.Goals as goal
 

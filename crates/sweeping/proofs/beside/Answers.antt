@@ -1,7 +1,6 @@
 -- `beside` meets its contract: the four looks are at the four neighbours.
 use native.Mathlib.Omega.{arith}
 use Rattle.sweeping.proofs.Laws.Before.{around_looked}
-use borrow.Author.Rules.{rules}
 use Rattle.sweeping.proofs.beside.Goals as goal
 
 pub overflow_add-result : goal.overflow_add-result

@@ -1,11 +1,7 @@
 -- `gather` meets its contract. The loop's invariant: the queue has the rocks among the bytes
 -- passed.
-use borrow.Author.Rules.{rules}
-use mathlib.Core.Path.{◌≡◌, refl, ◌∙◌}
-use Prim.Native.Nat.{◌-◌, ◌≤◌}
+use mathlib.Core.Path.{refl, ◌∙◌}
 use native.Mathlib.Omega.{arith}
-use lib.ListN.{length}
-use Rattle.sweeping.specs.Steps.{Gathering}
 use Rattle.sweeping.proofs.Laws.Gathering.{gathering_start, gathered}
 use Rattle.sweeping.proofs.gather.Goals as goal
 

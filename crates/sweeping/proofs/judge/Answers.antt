@@ -5,7 +5,6 @@ use Prim.Native.Nat.{ℕ}
 use native.Mathlib.Omega.{arith}
 use lib.ListN.{get_or}
 use Rattle.sweeping.proofs.Laws.Growing.{judged_still, room_left, judged_one}
-use borrow.Author.Rules.{rules}
 use Rattle.sweeping.proofs.judge.Goals as goal
 
 pub returns-then-w-x : goal.returns-then-w-x

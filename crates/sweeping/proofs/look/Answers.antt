@@ -1,7 +1,6 @@
 -- `look` meets its contract: off the map there is no mark; on it, what is 0 or new counts as open.
 use mathlib.Core.Path.{sym, ◌∙◌}
 use native.Mathlib.Omega.{arith}
-use borrow.Author.Rules.{rules}
 use Rattle.sweeping.proofs.Laws.Before.{looked_east, looked_north, looked_open, looked_new, looked_closed}
 use Rattle.sweeping.proofs.look.Goals as goal
 

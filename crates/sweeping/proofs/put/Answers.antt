@@ -1,7 +1,6 @@
 -- `put` meets its contract: there is room, since the queue has no more than the bytes passed.
 use native.Mathlib.Omega.{arith}
 use Rattle.sweeping.proofs.Laws.Gathering.{put_none, put_one, put_room}
-use borrow.Author.Rules.{rules}
 use Rattle.sweeping.proofs.put.Goals as goal
 
 pub returns-then-s-i-eq0 : goal.returns-then-s-i-eq0

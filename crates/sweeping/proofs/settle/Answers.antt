@@ -1,9 +1,6 @@
 -- `settle` meets its contract. The loop's invariant: the part up to j is shut.
 use mathlib.Core.Path.{◌≡◌}
-use borrow.Author.Rules.{rules}
-use Prim.Native.Nat.{◌-◌, ◌≤◌}
 use native.Mathlib.Omega.{arith}
-use Rattle.sweeping.specs.Steps.{Settled}
 use Rattle.sweeping.proofs.Laws.Sweeping.{settled_start, settled_more}
 use Rattle.sweeping.proofs.settle.Goals as goal
 

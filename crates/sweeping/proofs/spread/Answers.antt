@@ -2,7 +2,6 @@
 use native.Mathlib.Omega.{arith}
 use Rattle.sweeping.proofs.Laws.Growing.{grows_ready}
 use Rattle.sweeping.proofs.Laws.Sweeping.{cut_on, spread_from}
-use borrow.Author.Rules.{rules}
 use Rattle.sweeping.proofs.spread.Goals as goal
 
 pub overflow_add-x : goal.overflow_add-x

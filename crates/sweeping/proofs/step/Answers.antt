@@ -1,6 +1,5 @@
 -- `step` meets its contract: what the sweep put behind has the numbers of crossings.
 use Rattle.sweeping.proofs.Laws.Sweeping.{settles_behind}
-use borrow.Author.Rules.{rules}
 use Rattle.sweeping.proofs.step.Goals as goal
 
 pub settle-requires : goal.settle-requires

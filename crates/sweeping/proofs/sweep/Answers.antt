@@ -1,9 +1,8 @@
 -- `sweep` meets its contract. The loop's invariant: what is added, and that the neighbours of the
 -- crossings passed are judged.
 use Rattle.sweeping.proofs.Laws.Growing.{ready_few}
-use Prim.Native.Nat.{◌-◌}
 use native.Mathlib.Omega.{arith}
-use Rattle.sweeping.proofs.Laws.Sweeping.{Going, going_start, going_asks, going_on, going_end}
+use Rattle.sweeping.proofs.Laws.Sweeping.{going_start, going_asks, going_on, going_end}
 use Rattle.sweeping.proofs.sweep.Goals as goal
 
 pub loop-j-init : goal.loop-j-init

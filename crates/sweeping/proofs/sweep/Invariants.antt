@@ -1,9 +1,7 @@
 -- `sweep` meets its contract. The loop's invariant: what is added, and that the neighbours of the
 -- crossings passed are judged.
-use Rattle.sweeping.proofs.Laws.Growing.{ready_few}
 use Prim.Native.Nat.{◌-◌}
-use native.Mathlib.Omega.{arith}
-use Rattle.sweeping.proofs.Laws.Sweeping.{Going, going_start, going_asks, going_on, going_end}
+use Rattle.sweeping.proofs.Laws.Sweeping.{Going}
 use Rattle.sweeping.proofs.sweep.Given as goal
 
 abbrev pub invariant-loop-j : goal.invariant-loop-j

@@ -1,6 +1,5 @@
 -- `fault` meets its contract: four bytes are counted, and each way out is told by the tests on it.
 use native.Mathlib.Omega.{arith}
-use borrow.Author.Rules.{rules}
 use Rattle.taking.proofs.fault.Goals as goal
 
 pub overflow_add-around : goal.overflow_add-around

@@ -1,7 +1,6 @@
 -- `faults_at` meets its contract: with the rows beside it, or zeros at the edge, the row is judged
 -- as the sheet has it.
 use native.Mathlib.Omega.{arith}
-use borrow.Author.Rules.{rules}
 use Rattle.taking.proofs.Rows.{north_edge, north_row, south_edge, south_row, row_kept}
 use Rattle.taking.proofs.faults_at.Goals as goal
 

@@ -1,7 +1,6 @@
 -- `row_of` meets its contract: a row ends within the sheet, and its part of the sheet is the row.
 use mathlib.Core.Path.{refl}
 use native.Mathlib.Omega.{arith}
-use borrow.Author.Rules.{rules}
 use Rattle.field.specs.Limits.{crossings_few}
 use Rattle.taking.proofs.Rows.{row_end, part_row}
 use Rattle.taking.proofs.row_of.Goals as goal

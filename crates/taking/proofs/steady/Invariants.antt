@@ -1,16 +1,7 @@
 -- `steady` meets its contract: every row passed has no fault; so a fault met is the sheet's, and
 -- where none is met every crossing is as it may be.
-use mathlib.Core.Path.{◌≡◌, refl, sym}
-use mathlib.Core.Bool.{true, false, false≢true}
-use mathlib.Core.List.{List}
-use mathlib.Core.Logic.{◌↔◌}
-use Prim.Native.Nat.{ℕ, ◌+◌, ◌-◌, ◌<◌, ◌≤◌}
-use native.Mathlib.Omega.{arith}
-use native.Mathlib.Decide.{ℕ_discrete}
-use Rattle.field.specs.Limits.{side_number, side_is}
+use Prim.Native.Nat.{ℕ, ◌-◌, ◌<◌, ◌≤◌}
 use Rattle.field.specs.Workings.MorningLaws.{Kept}
-use Rattle.field.proofs.Workings.MorningLaws.{kept_steady, steady_kept}
-use Rattle.taking.proofs.Rows.{zeros_long, zeros_all}
 use Rattle.taking.proofs.steady.Given as goal
 
 abbrev pub invariant-loop-y : goal.invariant-loop-y

@@ -1,7 +1,6 @@
 -- `words::both` meets its contract. No byte of the sum is above 3, so none runs over into the next.
 use native.Mathlib.Omega.{arith}
 use Rattle.words.proofs.Laws.Eights.{bytes_law, spread_most}
-use borrow.Author.Rules.{rules}
 use Rattle.words.proofs.both.Goals as goal
 
 pub overflow_mul-result : goal.overflow_mul-result

@@ -1,6 +1,5 @@
 -- `words::eight` meets its contract. Eight bytes of 0 and 1, four folded between four, are gathered
 -- into bits.
-use borrow.Author.Rules.{rules}
 use Rattle.words.proofs.Laws.Eights.{eight_law}
 use Rattle.words.proofs.eight.Goals as goal
 

@@ -1,6 +1,5 @@
 -- `words::gather` meets its contract. It computes `gathered`, word for word.
 use mathlib.Core.Path.{refl}
-use borrow.Author.Rules.{rules}
 use Rattle.words.specs.Eights.{gathered}
 use Rattle.words.proofs.gather.Goals as goal
 

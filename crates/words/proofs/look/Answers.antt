@@ -1,6 +1,5 @@
 -- `words::look` meets its contract. A byte of a sheet of 0 and 1 is one of the two.
 use native.Mathlib.Omega.{arith}
-use borrow.Author.Rules.{rules}
 use Rattle.words.proofs.look.Goals as goal
 
 pub returns : goal.returns

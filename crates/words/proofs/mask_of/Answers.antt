@@ -1,5 +1,4 @@
 -- `words::mask_of` meets its contract. Ones, shifted until n of them are left.
-use borrow.Author.Rules.{rules}
 use Rattle.bits.specs.Carries.{mask_law}
 use Rattle.words.proofs.mask_of.Goals as goal
 

@@ -4,7 +4,6 @@ use native.Mathlib.Omega.{arith}
 use lib.ListN.{length-set}
 use lib.Bits.{and_le_r}
 use Rattle.words.proofs.Laws.Eights.{put_eight_law}
-use borrow.Author.Rules.{rules}
 use Rattle.words.proofs.put_eight.Goals as goal
 
 pub overflow_cast-s : goal.overflow_cast-s

@@ -1,10 +1,8 @@
 -- `words::read_eights` meets its contract. The loop's invariant: v has the bytes passed as bits.
 use mathlib.Core.Path.{◌≡◌}
-use Prim.Native.Nat.{◌-◌, ◌*◌, ◌/◌, ◌%◌, ◌≤◌}
+use Prim.Native.Nat.{◌*◌, ◌/◌}
 use native.Mathlib.Omega.{arith}
-use Rattle.words.specs.Words.{Reads}
 use Rattle.words.proofs.Laws.Words.{reads_start, reads_eight}
-use borrow.Author.Rules.{rules}
 use Rattle.words.proofs.read_eights.Goals as goal
 
 pub loop-x-init : goal.loop-x-init

@@ -1,10 +1,7 @@
 -- `words::read_eights` meets its contract. The loop's invariant: v has the bytes passed as bits.
 use mathlib.Core.Path.{◌≡◌}
-use Prim.Native.Nat.{◌-◌, ◌*◌, ◌/◌, ◌%◌, ◌≤◌}
-use native.Mathlib.Omega.{arith}
+use Prim.Native.Nat.{◌-◌, ◌%◌, ◌≤◌}
 use Rattle.words.specs.Words.{Reads}
-use Rattle.words.proofs.Laws.Words.{reads_start, reads_eight}
-use borrow.Author.Rules.{rules}
 use Rattle.words.proofs.read_eights.Given as goal
 
 abbrev pub invariant-loop-x : goal.invariant-loop-x

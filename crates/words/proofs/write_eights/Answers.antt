@@ -1,11 +1,9 @@
 -- `words::write_eights` meets its contract. The loop's invariant: the bytes passed are written.
 use mathlib.Core.Path.{◌≡◌}
-use Prim.Native.Nat.{◌-◌, ◌*◌, ◌/◌, ◌%◌, ◌^◌, ◌≤◌}
+use Prim.Native.Nat.{◌*◌, ◌/◌, ◌^◌}
 use native.Mathlib.Omega.{arith}
 use lib.Bits.{and_le_r}
-use Rattle.words.specs.Words.{WrittenAt}
 use Rattle.words.proofs.Laws.Words.{written_start, written_eight}
-use borrow.Author.Rules.{rules}
 use Rattle.words.proofs.write_eights.Goals as goal
 
 pub loop-x-init : goal.loop-x-init

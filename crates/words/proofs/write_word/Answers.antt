@@ -1,12 +1,9 @@
 -- `words::write_word` meets its contract. The loop's invariant: the bytes passed are written.
 use mathlib.Core.Path.{◌≡◌, refl}
-use Prim.Native.Nat.{◌-◌, ◌≤◌}
 use native.Mathlib.Omega.{arith}
 use Rattle.bits.specs.Laws.{bit_le}
 use Rattle.bits.specs.Shifts.{low_bit}
-use Rattle.words.specs.Words.{WrittenAt}
 use Rattle.words.proofs.Laws.Words.{written_next, written_trans}
-use borrow.Author.Rules.{rules}
 use Rattle.words.proofs.write_word.Goals as goal
 
 pub loop-x-init : goal.loop-x-init

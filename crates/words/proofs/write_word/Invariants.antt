@@ -1,12 +1,6 @@
 -- `words::write_word` meets its contract. The loop's invariant: the bytes passed are written.
-use mathlib.Core.Path.{◌≡◌, refl}
 use Prim.Native.Nat.{◌-◌, ◌≤◌}
-use native.Mathlib.Omega.{arith}
-use Rattle.bits.specs.Laws.{bit_le}
-use Rattle.bits.specs.Shifts.{low_bit}
 use Rattle.words.specs.Words.{WrittenAt}
-use Rattle.words.proofs.Laws.Words.{written_next, written_trans}
-use borrow.Author.Rules.{rules}
 use Rattle.words.proofs.write_word.Given as goal
 
 abbrev pub invariant-loop-x : goal.invariant-loop-x

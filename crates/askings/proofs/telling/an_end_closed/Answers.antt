@@ -2,7 +2,6 @@
 use mathlib.Core.Path.{refl}
 use mathlib.Core.Logic.{inl, inr, ⊎_elim}
 use Rattle.regions.proofs.RegionMade.{end_closed, end_open}
-use borrow.Author.Rules.{rules}
 use Rattle.askings.proofs.telling.an_end_closed.Goals as goal
 
 pub returns-then-mark-ne0 : goal.returns-then-mark-ne0

@@ -1,6 +1,5 @@
 -- `hops_named` meets its contract: each case of the enum has document 01's values.
 use mathlib.Core.Path.{refl}
-use borrow.Author.Rules.{rules}
 use Rattle.askings.proofs.telling.hops_named.Goals as goal
 
 pub returns-in-There : goal.returns-in-There

@@ -1,6 +1,5 @@
 -- `lines_told` meets its contract: each case of the enum has its values.
 use mathlib.Core.Path.{refl}
-use borrow.Author.Rules.{rules}
 use Rattle.askings.proofs.telling.lines_told.Goals as goal
 
 pub returns-in-No : goal.returns-in-No

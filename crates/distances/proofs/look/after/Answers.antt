@@ -1,7 +1,6 @@
 -- `look::after` meets its contract: on the way, and within the map, no sum wraps and no difference
 -- goes below 0.
 use native.Mathlib.Omega.{arith}
-use borrow.Author.Rules.{rules}
 use Rattle.field.specs.Map.{side}
 use Rattle.distances.proofs.look.after.Goals as goal
 

@@ -1,11 +1,8 @@
 -- `look::look` meets its contract, whatever the way. The invariant: nothing is marked on the first
 -- k hops, and they are no more than reach the edge.
 use Prim.Native.Nat.{◌+◌, ◌-◌, ◌≤◌}
-use native.Mathlib.Omega.{arith}
-use borrow.Author.Rules.{rules}
-use Rattle.field.specs.Map.{side, no_distance}
 use Rattle.distances.specs.Looking.{towards}
-use Rattle.distances.proofs.Looking.{Bare, bare_none, bare_more, bare_met, bare_edge}
+use Rattle.distances.proofs.Looking.{Bare}
 use Rattle.distances.proofs.look.look.Given as goal
 
 abbrev pub invariant-loop-k : goal.invariant-loop-k

@@ -1,6 +1,5 @@
 -- `look::room` meets its contract: each way has its own difference.
 use native.Mathlib.Omega.{arith}
-use borrow.Author.Rules.{rules}
 use Rattle.distances.proofs.look.room.Goals as goal
 
 pub returns-in-East : goal.returns-in-East

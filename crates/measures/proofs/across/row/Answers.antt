@@ -1,8 +1,7 @@
 -- `across::row` meets its contract. The invariant: the crossings passed are made.
-use Prim.Native.Nat.{◌-◌, ◌≤◌}
 use native.Mathlib.Omega.{arith}
 use borrow.Author.Rules.{rules}
-use Rattle.measures.proofs.Columns.{Making, making_none, making_at, making_all}
+use Rattle.measures.proofs.Columns.{making_none, making_at, making_all}
 use Rattle.measures.proofs.across.row.Goals as goal
 
 pub loop-x-init : goal.loop-x-init

@@ -1,9 +1,8 @@
 -- `across::rows` meets its contract. The invariant: the rows passed have their running numbers, the
 -- one at the edge being passed from the start.
 use mathlib.Core.Path.{◌∙◌}
-use Prim.Native.Nat.{◌-◌, ◌≤◌}
 use native.Mathlib.Omega.{arith}
-use Rattle.measures.proofs.Columns.{RowsMade, rows_made_edge, rows_made_at, rows_made_all, two_rows}
+use Rattle.measures.proofs.Columns.{rows_made_edge, rows_made_at, rows_made_all, two_rows}
 use Rattle.measures.proofs.across.rows.Goals as goal
 
 pub loop-k-init : goal.loop-k-init

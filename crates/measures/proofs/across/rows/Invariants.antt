@@ -1,9 +1,7 @@
 -- `across::rows` meets its contract. The invariant: the rows passed have their running numbers, the
 -- one at the edge being passed from the start.
-use mathlib.Core.Path.{◌∙◌}
 use Prim.Native.Nat.{◌-◌, ◌≤◌}
-use native.Mathlib.Omega.{arith}
-use Rattle.measures.proofs.Columns.{RowsMade, rows_made_edge, rows_made_at, rows_made_all, two_rows}
+use Rattle.measures.proofs.Columns.{RowsMade}
 use Rattle.measures.proofs.across.rows.Given as goal
 
 abbrev pub invariant-loop-k : goal.invariant-loop-k

@@ -1,5 +1,4 @@
 -- `across::run_on` meets its contract: its tests are the definition's, in its order.
-use borrow.Author.Rules.{rules}
 use borrow.Author.Tests.{eq-eqb, ne_eqb}
 use Rattle.field.specs.Limits.{distance_mark, no_distance_is}
 use Rattle.measures.specs.Running.{onward}

@@ -1,5 +1,4 @@
 -- `across::sheet` meets its contract: own numbers, then running numbers, are the distances.
-use borrow.Author.Rules.{rules}
 use Rattle.measures.proofs.Meaning.{columns_distances}
 use Rattle.measures.proofs.across.sheet.Goals as goal
 

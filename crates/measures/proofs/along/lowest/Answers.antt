@@ -1,5 +1,4 @@
 -- `along::lowest` meets its contract, by the end that it counts from.
-use borrow.Author.Rules.{rules}
 use Rattle.measures.proofs.along.lowest.Goals as goal
 
 pub overflow_sub-result : goal.overflow_sub-result

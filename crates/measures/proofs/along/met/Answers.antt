@@ -1,10 +1,10 @@
 -- `along::met` meets its contract. The invariant: no place passed is closed.
 use mathlib.Core.Path.{sym, ap, ◌∙◌}
-use Prim.Native.Nat.{ℕ, ◌-◌}
+use Prim.Native.Nat.{ℕ}
 use native.Mathlib.Omega.{arith}
 use lib.ListN.{get_or}
 use Rattle.measures.proofs.Lines.{line_room}
-use Rattle.measures.proofs.Passing.{Free, free_none, free_more, free_met, free_all}
+use Rattle.measures.proofs.Passing.{free_none, free_more, free_met, free_all}
 use Rattle.measures.proofs.along.met.Goals as goal
 
 pub loop-k-init : goal.loop-k-init

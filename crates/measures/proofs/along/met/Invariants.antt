@@ -1,10 +1,6 @@
 -- `along::met` meets its contract. The invariant: no place passed is closed.
-use mathlib.Core.Path.{sym, ap, ◌∙◌}
-use Prim.Native.Nat.{ℕ, ◌-◌}
-use native.Mathlib.Omega.{arith}
-use lib.ListN.{get_or}
-use Rattle.measures.proofs.Lines.{line_room}
-use Rattle.measures.proofs.Passing.{Free, free_none, free_more, free_met, free_all}
+use Prim.Native.Nat.{◌-◌}
+use Rattle.measures.proofs.Passing.{Free}
 use Rattle.measures.proofs.along.met.Given as goal
 
 abbrev pub invariant-loop-k : goal.invariant-loop-k

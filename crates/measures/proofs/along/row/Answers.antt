@@ -1,7 +1,6 @@
 -- `along::row` meets its contract. What is passed has its number already, and the running number
 -- makes the others.
 use native.Mathlib.Omega.{arith}
-use borrow.Author.Rules.{rules}
 use Rattle.measures.proofs.Lines.{row_first, row_on}
 use Rattle.measures.proofs.Rows.{row_bare, row_ran}
 use Rattle.measures.proofs.along.row.Goals as goal

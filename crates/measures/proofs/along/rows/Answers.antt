@@ -1,10 +1,9 @@
 -- `along::rows` meets its contract. The invariant: the rows passed have their running numbers.
 use mathlib.Core.Path.{sym, subst, ◌∙◌}
-use Prim.Native.Nat.{◌-◌, ◌≤◌}
 use native.Mathlib.Omega.{arith}
 use Rattle.field.specs.Map.{On}
 use Rattle.measures.specs.Running.{Own}
-use Rattle.measures.proofs.Rows.{RowsPassed, rows_none, rows_more, rows_all}
+use Rattle.measures.proofs.Rows.{rows_none, rows_more, rows_all}
 use Rattle.measures.proofs.along.rows.Goals as goal
 
 pub loop-y-init : goal.loop-y-init

@@ -1,10 +1,6 @@
 -- `along::rows` meets its contract. The invariant: the rows passed have their running numbers.
-use mathlib.Core.Path.{sym, subst, ◌∙◌}
 use Prim.Native.Nat.{◌-◌, ◌≤◌}
-use native.Mathlib.Omega.{arith}
-use Rattle.field.specs.Map.{On}
-use Rattle.measures.specs.Running.{Own}
-use Rattle.measures.proofs.Rows.{RowsPassed, rows_none, rows_more, rows_all}
+use Rattle.measures.proofs.Rows.{RowsPassed}
 use Rattle.measures.proofs.along.rows.Given as goal
 
 abbrev pub invariant-loop-y : goal.invariant-loop-y

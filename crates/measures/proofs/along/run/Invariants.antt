@@ -1,12 +1,7 @@
 -- `along::run` meets its contract. The invariant: the places passed have their running numbers, and
 -- the last of them is at hand.
-use mathlib.Core.Path.{refl}
 use Prim.Native.Nat.{◌-◌}
-use native.Mathlib.Omega.{arith}
-use Rattle.field.specs.Limits.{side_is}
-use Rattle.measures.specs.Running.{counted}
-use Rattle.measures.proofs.Lines.{line_room}
-use Rattle.measures.proofs.Runs.{RunningFrom, from_none, from_le, from_in, from_more, from_all}
+use Rattle.measures.proofs.Runs.{RunningFrom}
 use Rattle.measures.proofs.along.run.Given as goal
 
 abbrev pub invariant-loop-k : goal.invariant-loop-k

@@ -1,5 +1,4 @@
 -- `along::sheet` meets its contract: own numbers, and running numbers over them, are the distances.
-use borrow.Author.Rules.{rules}
 use Rattle.measures.proofs.Meaning.{own_sheet, rows_distances}
 use Rattle.measures.proofs.along.sheet.Goals as goal
 

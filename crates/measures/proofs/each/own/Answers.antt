@@ -1,11 +1,7 @@
 -- `each::own` meets its contract. The invariant: the crossings passed have their own numbers.
 use mathlib.Core.Path.{◌∙◌}
-use Prim.Native.Nat.{◌-◌, ◌≤◌}
 use native.Mathlib.Omega.{arith}
-use borrow.Author.Rules.{rules}
-use lib.ListN.{length, get_or}
-use Rattle.measures.specs.Running.{OwnOf}
-use Rattle.measures.proofs.Filling.{Filled, filled_none, filled_more}
+use Rattle.measures.proofs.Filling.{filled_none, filled_more}
 use Rattle.measures.proofs.each.own.Goals as goal
 
 pub loop-i-init : goal.loop-i-init

@@ -1,11 +1,8 @@
 -- `each::own` meets its contract. The invariant: the crossings passed have their own numbers.
-use mathlib.Core.Path.{◌∙◌}
 use Prim.Native.Nat.{◌-◌, ◌≤◌}
-use native.Mathlib.Omega.{arith}
-use borrow.Author.Rules.{rules}
 use lib.ListN.{length, get_or}
 use Rattle.measures.specs.Running.{OwnOf}
-use Rattle.measures.proofs.Filling.{Filled, filled_none, filled_more}
+use Rattle.measures.proofs.Filling.{Filled}
 use Rattle.measures.proofs.each.own.Given as goal
 
 abbrev pub invariant-loop-i : goal.invariant-loop-i

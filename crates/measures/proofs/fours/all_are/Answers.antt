@@ -1,7 +1,6 @@
 -- `fours::all_are` meets its contract. The word that n makes four times is made of n alone.
 use native.Mathlib.Omega.{arith}
 use Prim.Native.Nat.{◌*◌}
-use borrow.Author.Rules.{rules}
 use borrow.Author.Tests.{eqb-true}
 use Rattle.measures.proofs.Digits.{all_same}
 use Rattle.measures.proofs.fours.all_are.Goals as goal

@@ -1,6 +1,5 @@
 -- `fours::look` meets its contract. What a sheet holds are numbers of sixteen bits.
 use native.Mathlib.Omega.{arith}
-use borrow.Author.Rules.{rules}
 use Rattle.measures.proofs.fours.look.Goals as goal
 
 pub returns : goal.returns
