@@ -23,7 +23,7 @@ returns-then-src-gt-MOST_BYTES c =
 
 pub read_piece-requires-2 : goal.read_piece-requires-2
 unfolding most_bytes
-read_piece-requires-2 c = record { short = c.if-src-gt-MOST_BYTES.false; room = c.requires }
+read_piece-requires-2 c = record { short = omega arith; room = c.requires }
 
 pub returns : goal.returns
 unfolding most_bytes

@@ -6,7 +6,7 @@ use Prim.Native.Nat.{ℕ, ◌*◌, ◌<◌, ◌≤◌}
 use native.Mathlib.Omega.{arith}
 use native.Mathlib.Nat.{mul-le-mul_left}
 use Rattle.field.specs.Limits.{crossings_few}
-use Rattle.sheets.proofs.Told.{told_no, told_yes}
+use Rattle.sheets.proofs.Told.{told_yes}
 use Rattle.picturefile.specs.declared.Depth.{Depth}
 use Rattle.picturefile.specs.declared.Depth.TheVariants.{OneByte, TwoBytes}
 use Rattle.picturefile.specs.Depths.{bytes_of}
@@ -35,17 +35,8 @@ short left n b k e l = subst (λ (m : ℕ). left < n * m) e l
 long : (left n b k : ℕ) → b ≡ k → n * b < left → n * k < left
 long left n b k e l = subst (λ (m : ℕ). n * m < left) e l
 
-pub returns-then-not-sized : goal.returns-then-not-sized
-returns-then-not-sized c = inl (told_no c.sized-sized.ensures c.if-not-sized.true, refl)
-
 pub overflow_mul-crossings : goal.overflow_mul-crossings
 overflow_mul-crossings c = omega (arith, crossings_few (told_yes c.sized-sized.ensures c.if-not-sized.false))
-
-pub returns-then-not-known : goal.returns-then-not-known
-returns-then-not-known c = inr (passed c.sized-sized.ensures c.if-not-sized.false, inl (told_no c.known-known.ensures c.if-not-known.true, refl))
-
-pub returns-then-lent-crossings : goal.returns-then-lent-crossings
-returns-then-lent-crossings c = inr (passed c.sized-sized.ensures c.if-not-sized.false, inr (passed c.known-known.ensures c.if-not-known.false, inl (λ e. omega arith, refl)))
 
 pub overflow_mul-whole : goal.overflow_mul-whole
 overflow_mul-whole c =

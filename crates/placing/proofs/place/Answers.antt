@@ -43,5 +43,5 @@ distances-d-requires c =
 pub returns : goal.returns
 returns c =
     let k = c.requires in
-    places_all _ k.sides c.column-dx.ensures c.row-dy.ensures _ c.mark.ensures c.if-mark-ne0.false
+    places_all _ k.sides c.column-dx.ensures c.row-dy.ensures _ c.mark.ensures (omega arith)
     c.reach.ensures c.distances-d.ensures c.count.ensures
