@@ -5,6 +5,7 @@ pub mod Turns
 pub mod Calls
 pub mod Slots
 pub mod Lending
+pub mod Whole
 pub mod Meeting
 pub mod Handing
 pub mod Returning
