@@ -1,7 +1,7 @@
 -- The promise of the call that checks a drawn list (request 01): its rules, its answer, and what it
 -- leaves in the label sheet. The list drawn is only read.
 use Rattle.std.specs.Prelude.{◌≡◌, List, [], ◌∷◌, ℕ}
-use Rattle.field.specs.declared.Finding.{Finding}
+use Rattle.field.specs.Checks.{Finding}
 use Rattle.field.specs.Reasons.{no_fault}
 use Rattle.field.specs.Checks.{Finds}
 use Rattle.calls.specs.Rules

@@ -31,3 +31,4 @@ pub mod RoundTrip
 pub mod PictureCalls
 pub mod PictureTrips
 pub mod OldPictures
+pub mod Told

@@ -4,7 +4,7 @@ use Rattle.std.specs.Prelude.{◌≡◌, refl, List, ◌↔◌, ℕ}
 use Rattle.std.proofs.Common.{inl, inr, arith}
 use Rattle.field.specs.Labels.{RockOn}
 use Rattle.field.specs.Distances.{Way, Assured}
-use Rattle.field.specs.declared.Finding.{Finding}
+use Rattle.field.specs.Checks.{Finding}
 use Rattle.field.specs.Checks.{IsClosed, reasons, Finds, accepted, at_fault}
 use Rattle.field.proofs.Workings.SameLaws.{Alike, alike_back, open_same, assured_same, answers_same, has_drive_same, has_lines_same, lines_same, driven_by_same, distance_sheet_same, region_sheet_same, driven_same, closed_same, shut_same, groups_same, count_alike}
 use Rattle.calls.specs.Rules.{AnEndClosed, Gives, NoWay, assured_rows, hop_rows, region_rows, drive_rows}

@@ -3,9 +3,13 @@
 // refusal is its number, with zeros beside it.
 #![tactic(auto)]
 
+mod telling; // telling.rt: what the crates below answer, as these structs
+
+pub use telling::number;
+
 // The new count of a list, or the refusal.
 #[repr(C)]
-#[derive(Clone, Copy)]
+#[derive(Clone, Copy, Debug, PartialEq, Eq)]
 pub struct Counted {
     pub refusal: u8,
     pub count: usize,
@@ -13,7 +17,7 @@ pub struct Counted {
 
 // The numbers of rocks' crossings, shut crossings and groups, or the refusal.
 #[repr(C)]
-#[derive(Clone, Copy)]
+#[derive(Clone, Copy, Debug, PartialEq, Eq)]
 pub struct Labelling {
     pub refusal: u8,
     pub rocks: usize,
@@ -23,7 +27,7 @@ pub struct Labelling {
 
 // The number of sweeps that changed something, or the refusal.
 #[repr(C)]
-#[derive(Clone, Copy)]
+#[derive(Clone, Copy, Debug, PartialEq, Eq)]
 pub struct Swept {
     pub refusal: u8,
     pub sweeps: usize,
@@ -31,7 +35,7 @@ pub struct Swept {
 
 // The four distances of a crossing, east, south, west, north, or the refusal.
 #[repr(C)]
-#[derive(Clone, Copy)]
+#[derive(Clone, Copy, Debug, PartialEq, Eq)]
 pub struct Four {
     pub refusal: u8,
     pub four: [u16; 4],
@@ -39,7 +43,7 @@ pub struct Four {
 
 // Whether home is assured, or the refusal.
 #[repr(C)]
-#[derive(Clone, Copy)]
+#[derive(Clone, Copy, Debug, PartialEq, Eq)]
 pub struct Assurance {
     pub refusal: u8,
     pub assured: bool,
@@ -48,7 +52,7 @@ pub struct Assurance {
 // How many hops homeward are permitted, none at home, and where they lead, the east-west one first;
 // or the refusal.
 #[repr(C)]
-#[derive(Clone, Copy)]
+#[derive(Clone, Copy, Debug, PartialEq, Eq)]
 pub struct Homeward {
     pub refusal: u8,
     pub hops: u8,
@@ -60,7 +64,7 @@ pub struct Homeward {
 
 // How many crossings of the route were filled, or the refusal.
 #[repr(C)]
-#[derive(Clone, Copy)]
+#[derive(Clone, Copy, Debug, PartialEq, Eq)]
 pub struct Drove {
     pub refusal: u8,
     pub length: usize,
@@ -68,7 +72,7 @@ pub struct Drove {
 
 // Width, height and number of markers of a map that was read, or the refusal.
 #[repr(C)]
-#[derive(Clone, Copy)]
+#[derive(Clone, Copy, Debug, PartialEq, Eq)]
 pub struct ReadMap {
     pub refusal: u8,
     pub width: usize,
@@ -78,7 +82,7 @@ pub struct ReadMap {
 
 // How many bytes were written, or the refusal.
 #[repr(C)]
-#[derive(Clone, Copy)]
+#[derive(Clone, Copy, Debug, PartialEq, Eq)]
 pub struct WroteMap {
     pub refusal: u8,
     pub bytes: usize,
@@ -87,7 +91,7 @@ pub struct WroteMap {
 // What is found of a drawn list: why it is at fault and the position of the first crossing at
 // fault, both 0 for an accepted list; or the refusal.
 #[repr(C)]
-#[derive(Clone, Copy)]
+#[derive(Clone, Copy, Debug, PartialEq, Eq)]
 pub struct Checked {
     pub refusal: u8,
     pub reason: u8,
@@ -96,7 +100,7 @@ pub struct Checked {
 
 // How many bytes of a picture were written, or the refusal.
 #[repr(C)]
-#[derive(Clone, Copy)]
+#[derive(Clone, Copy, Debug, PartialEq, Eq)]
 pub struct SheetWritten {
     pub refusal: u8,
     pub bytes: usize,
@@ -104,7 +108,7 @@ pub struct SheetWritten {
 
 // Width and height of a picture that was read, or the refusal.
 #[repr(C)]
-#[derive(Clone, Copy)]
+#[derive(Clone, Copy, Debug, PartialEq, Eq)]
 pub struct SheetRead {
     pub refusal: u8,
     pub width: usize,
@@ -114,7 +118,7 @@ pub struct SheetRead {
 // Whether two places have crossing lines, and if so the westmost column and the southmost row; if
 // not, or with a refusal, zeros.
 #[repr(C)]
-#[derive(Clone, Copy)]
+#[derive(Clone, Copy, Debug, PartialEq, Eq)]
 pub struct CrossingLines {
     pub refusal: u8,
     pub yes: bool,

@@ -1,4 +1,3 @@
 -- Laws that the proofs of the program's functions share.
-mod Lines
-mod Showing
 mod Reading
+mod Showing

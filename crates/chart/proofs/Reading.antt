@@ -13,9 +13,7 @@ use Rattle.field.specs.Refusals.{no_slot}
 use Rattle.field.specs.Limits.{marker_slots, most_markers_is}
 use Rattle.mapfile.specs.File.{MapFile, FileFault, NoSlot}
 use Rattle.mapfile.proofs.RockLaws.{raster_bits, raster_crossings}
-use Rattle.reader.specs.declared.Reading.{Reading}
-use Rattle.reader.specs.declared.Reading.TheVariants.{Map, Refused}
-use Rattle.reader.specs.Promise.{Reads, MapTaken}
+use Rattle.reader.specs.Promise.{MapTaken}
 use Rattle.mapfile.specs.Following.{most_bytes}
 use Rattle.chart.specs.Promise.{line_room, Refusal, fault, too_many, Charted, not_taken, shown}
 use Rattle.chart.specs.Parts.{BitsShown}
@@ -27,17 +25,10 @@ use Rattle.turning.specs.Turning.{MayTurn}
 map_crossings : {file bits : List ℕ} {w h : ℕ} → MapFile file w h bits → length bits ≡ h * w
 map_crossings {file} {bits} {w} {h} m = raster_crossings m.format w h m.body bits m.raster
 
--- Each answer of the reader with its own promise: with as many slots as markers may be in use, a
--- refusal is the file's.
-pub reads_map : {file out : List ℕ} {lent w h count : ℕ} {r : Reading} → Reads file lent out r → r ≡ Map w h count → MapTaken file lent w h count out
-reads_map p e = rw e at p
-
-pub reads_refusal : {file : List ℕ} (out : List ℕ) {n : ℕ} {r : Reading} → Reads file marker_slots out r → r ≡ Refused n → Refusal file n
-reads_refusal {file} out {n} p e = go (rw e at p)
-  where
-    go : FileFault file n ⊎ (NoSlot file marker_slots × (n ≡ no_slot)) → Refusal file n
-    go (inl f) = fault f
-    go (inr s) = too_many (rw most_markers_is s.0) s.1
+-- With as many slots as markers may be in use, a refusal is the file's.
+pub refusal_is : {file : List ℕ} {n : ℕ} → FileFault file n ⊎ (NoSlot file marker_slots × (n ≡ no_slot)) → Refusal file n
+refusal_is (inl f) = fault f
+refusal_is (inr s) = too_many (rw most_markers_is s.0) s.1
 
 -- A refusal's line is the text of the file that is refused.
 pub refusal_text : {file out after : List ℕ} {n end : ℕ} → length file ≤ most_bytes → Refusal file n → Puts (RefusalLine n) out 0 after end
@@ -50,7 +41,6 @@ module _ {file bits : List ℕ} {lent w h count : ℕ} (t : MapTaken file lent w
   pub taken_turn : (sheet : List ℕ) → length sheet ≡ h * w → MayTurn w h bits sheet
   taken_turn sheet size =
       record {
-        sides = t.map.sides;
         whole = omega (arith, length-take (h * w) bits, map_crossings t.map);
         size = size;
       }

@@ -7,7 +7,7 @@ use lib.ListN.{take}
 use Rattle.field.specs.Labels.{RockOn, Label, is_open, is_rock, is_shut}
 use Rattle.field.specs.Workings.Sheet.{Draws}
 use Rattle.field.proofs.Workings.SameLaws.{Alike, open_same, closed_same, shut_same, count_alike, groups_same}
-use Rattle.labels.specs.declared.Labelled.{Labelled}
+use Rattle.field.specs.declared.Labelled.{Labelled}
 use Rattle.labels.specs.Promise.{Stones, Labels}
 use Rattle.chart.specs.Promise.{Picture}
 use Rattle.printing.specs.Parts.{Put, Puts}

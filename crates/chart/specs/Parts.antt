@@ -1,30 +1,19 @@
 -- What the program's functions put into the output, and the room that they ask.
 use Rattle.std.specs.Prelude.{◌≡◌, List, [], ◌∷◌, ◌++◌, ℕ, ◌+◌, ◌*◌, ◌<◌, ◌≤◌, length, get_or, take}
-use Rattle.field.specs.Map.{side, Sides}
+use Rattle.field.specs.Map.{side}
 use Rattle.field.specs.Labels.{Closed, RockOn, Shut, Count}
 use Rattle.field.specs.Groups.{Groups}
-use Rattle.labels.specs.declared.Labelled.{Labelled}
+use Rattle.field.specs.declared.Labelled.{Labelled}
 use Rattle.mapfile.specs.File.{FileRock}
 use Rattle.printing.specs.Printed.{Line}
+use Rattle.printing.specs.Parts.{NumbersLine}
 use Rattle.mapfile.specs.Following.{most_bytes}
 use Rattle.chart.specs.Promise.{line_room, Picture}
 use Rattle.turning.specs.Turning.{MayTurn}
 
 -- The first line: five numbers.
-pub record FirstLine (w h : ℕ) (r : Labelled) (l : List ℕ) : Type 0 where
-  pub line : Line (w ∷ h ∷ r.rocks ∷ r.shut ∷ r.groups ∷ []) l
-  pub few : length l ≤ line_room
-
--- The sheet has row y whole, and the part of the output just the room for it and LF.
-pub record RowRoom (s : List ℕ) (w y : ℕ) (out : List ℕ) : Type 0 where
-  pub whole : y * w + w ≤ length s
-  pub room : length out ≡ w + 1
-
--- The sheet has the map's size, and the part of the output just the room for its rows.
-pub record RowsRoom (s : List ℕ) (w h : ℕ) (out : List ℕ) : Type 0 where
-  pub sides : Sides w h
-  pub size : length s ≡ h * w
-  pub room : length out ≡ h * (w + 1)
+abbrev pub FirstLine : ℕ → ℕ → Labelled → List ℕ → Type 0
+FirstLine w h r = NumbersLine (w ∷ h ∷ r.rocks ∷ r.shut ∷ r.groups ∷ [])
 
 -- The text of a map: its first line and its picture. R tells the rocks.
 pub record Shown (R : ℕ → ℕ → Type 0) (w h : ℕ) (text : List ℕ) : Type 0 where

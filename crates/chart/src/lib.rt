@@ -2,15 +2,16 @@
 // text is written into its own part of the output, and hands back where the next begins.
 #![tactic(auto)]
 
-ghost use Rattle.std.specs.Prelude.{◌+◌, ◌≤◌, length, take, drop, ◌≡◌};
+ghost use Rattle.std.specs.Prelude.{◌+◌, ◌-◌, ◌*◌, ◌<◌, ◌≤◌, length, take, drop, ◌≡◌};
 ghost use Rattle.printing.specs.Parts.{Puts};
 ghost use Rattle.chart.specs.Promise.{line_room, room, Charted};
-ghost use Rattle.chart.specs.Parts.{FirstLine, RowRoom, RowsRoom, BitsShown, MapRoom, FileRoom};
+ghost use Rattle.chart.specs.Parts.{FirstLine, BitsShown, MapRoom, FileRoom};
 ghost use Rattle.chart.specs.Drawing.{sign_of, row_of, picture_of};
 
-use field::{MOST_CROSSINGS, MOST_MARKERS, SIDE};
+use field::{Labelled, MOST_CROSSINGS, MOST_MARKERS, Place, SIDE, Size};
 use mapfile::MOST_BYTES;
-use printing::{put_long, put_number, put_refusal};
+use printing::{put_line, put_long, put_refusal};
+use sheets::Sheet;
 use turning::turn;
 
 // Room for the longest text: the five numbers of the first line, and SIDE rows of SIDE signs, each
@@ -18,67 +19,64 @@ use turning::turn;
 pub const ROOM: usize = 5 * printing::NUMBER + SIDE * (SIDE + 1);
 
 // Writes the first line: width, height, rock crossings, shut crossings, groups.
-fn put_line(out: &mut [u8], w: usize, h: usize, found: labels::Labelled) -> usize
+fn put_first(out: &mut [u8], map: Size, found: Labelled) -> usize
     requires { line_room ≤ length out.old }
-    ensures { Puts (FirstLine w h found) out.old 0 out.new result }
+    ensures { Puts (FirstLine map.w map.h found) out.old 0 out.new result }
 {
-    let height = put_number(out, 0, w, b' ');
-    let rocks = put_number(out, height, h, b' ');
-    let shut = put_number(out, rocks, found.rocks, b' ');
-    let groups = put_number(out, shut, found.shut, b' ');
-    put_number(out, groups, found.groups, b'\n')
+    put_line(
+        out,
+        0,
+        &[map.w, map.h, found.rocks, found.shut, found.groups],
+    )
 }
 
 // The sign of a label: . open, # rock, o shut.
 fn sign(label: u8) -> u8
     ensures { result ≡ sign_of label }
 {
-    if label == 0 {
-        return b'.';
+    match label {
+        0 => b'.',
+        1 => b'#',
+        _ => b'o',
     }
-    if label == 1 {
-        return b'#';
-    }
-    b'o'
 }
 
 // Draws row y of the map into its own part of the output, with LF after it.
-fn put_row(out: &mut [u8], sheet: &[u8], w: usize, y: usize)
-    requires { RowRoom sheet.now w y out.old }
-    ensures { out.new ≡ row_of sheet.now w y }
+fn put_row(out: &mut [u8], s: Sheet<'_>, y: usize)
+    requires on_map { y < s.map.h }
+    requires room { length out.old ≡ s.map.w + 1 }
+    ensures { out.new ≡ row_of s.entry.cells.now s.entry.map.w y }
 {
-    let from = y * w;
-    for x in 0..w {
-        out[x] = sign(sheet[from + x]);
+    for x in 0..s.map.w {
+        out[x] = sign(s.at(Place { x, y }));
     }
-    out[w] = b'\n';
+    out[s.map.w] = b'\n';
 }
 
 // Draws the rows from the north: each is lent its own part of the output.
-fn put_rows(out: &mut [u8], sheet: &[u8], w: usize, h: usize)
-    requires { RowsRoom sheet.now w h out.old }
-    ensures { out.new ≡ picture_of sheet.now w h }
+#[tactic(auto, unfolding(crate::specs::Drawing::picture_of))]
+fn put_rows(out: &mut [u8], s: Sheet<'_>)
+    requires { length out.old ≡ s.map.h * (s.map.w + 1) }
+    ensures { out.new ≡ picture_of s.entry.cells.now s.entry.map.w s.entry.map.h }
 {
-    let row = w + 1;
-    for r in 0..h {
-        let y = h - (r + 1);
-        let start = r * row;
-        let end = start + row;
-        put_row(&mut out[start..end], sheet, w, y);
-    }
+    let put = move |r: usize, part: &mut [u8]|
+        requires { (r < s.map.h) × (length part.now ≡ s.map.w + 1) }
+        ensures { part.exit.now ≡ row_of s.entry.cells.now s.entry.map.w (s.entry.map.h - (r + 1)) }
+    { put_row(part, s, s.map.h - (r + 1)) };
+    packing::each_row(out, s.map.w + 1, s.map.h, put);
 }
 
 // Stamps a raster's bits on a lent sheet of the map's size, labels it, and writes the map's text:
 // the first line, then the rows.
-fn put_map(out: &mut [u8], sheet: &mut [u8], bits: &[u8], w: usize, h: usize) -> usize
-    requires { MapRoom w h bits.now sheet.old out.old }
-    ensures { Puts (BitsShown w h bits.now) out.old 0 out.new result }
+fn put_map(out: &mut [u8], sheet: &mut [u8], bits: &[u8], map: Size) -> usize
+    requires { MapRoom map.w map.h bits.now sheet.old out.old }
+    ensures { Puts (BitsShown map.w map.h bits.now) out.old 0 out.new result }
 {
-    turn(bits, w, h, sheet);
-    let found = labels::label(sheet, w, h);
-    let start = put_line(out, w, h, found);
-    let end = start + h * (w + 1);
-    put_rows(&mut out[start..end], sheet, w, h);
+    turn(bits, map, sheet);
+    let found = labels::label(sheet, map);
+    let start = put_first(out, map, found);
+    let end = start + map.h * (map.w + 1);
+    put_rows(&mut out[start..end], Sheet { cells: sheet, map });
     end
 }
 
@@ -88,14 +86,13 @@ fn put_file(out: &mut [u8], src: &[u8]) -> usize
     ensures { Puts (Charted src.now) out.old 0 out.new result }
 {
     let mut bits = [0u8; MOST_CROSSINGS];
-    let reading = reader::read(src, MOST_MARKERS, &mut bits);
-    match reading {
-        reader::Reading::Map(w, h, count) => {
+    match reader::read(src, MOST_MARKERS, &mut bits) {
+        Ok(reading) => {
             let mut sheet = [0u8; MOST_CROSSINGS];
-            let size = h * w;
-            put_map(out, &mut sheet[..size], &bits, w, h)
+            let size = reading.map.h * reading.map.w;
+            put_map(out, &mut sheet[..size], &bits, reading.map)
         }
-        reader::Reading::Refused(n) => put_refusal(out, n as usize),
+        Err(refusal) => put_refusal(out, usize::from(refusal.number())),
     }
 }
 

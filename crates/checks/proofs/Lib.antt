@@ -1,4 +1,3 @@
 -- What the proofs of the check share.
-pub mod Stepping
 pub mod Going
 pub mod Whole

@@ -1,3 +1,3 @@
--- What the functions behind the check ask of one another; the check's promise is `field`'s own
--- `Finds`.
-pub mod Asking
+-- What the code of the check tells, in the words of the workings; the check's promise is `field`'s
+-- own `Finds`.
+pub mod Told

@@ -3,150 +3,109 @@
 // position of the first crossing at fault and why".
 #![tactic(auto)]
 
-ghost use Rattle.std.specs.Prelude.{◌≡◌, drop};
+ghost use Rattle.std.specs.Prelude.{◌≡◌};
+ghost use Rattle.field.specs.Map.{On};
 ghost use Rattle.field.specs.Checks.{Finds};
 ghost use Rattle.field.specs.Workings.Sheet.{Marked};
 ghost use Rattle.field.specs.Workings.Checking.{step_to, neighbour_of, step_of, check_from};
-ghost use Rattle.sheets.specs.Promise.{Asked};
-ghost use Rattle.checks.specs.Asking.{Stands, Numbered};
+ghost use Rattle.checks.specs.Told.{step_told, finding_told};
 
-use field::reasons::{
-    ENDED_EARLY, IS_CLOSED, NO_FAULT, NOT_A_NEIGHBOUR, NOT_NEARER, OFF_THE_MAP, WENT_ON,
-    WRONG_START,
-};
-use field::{Finding, Step};
-use sheets::{mark, number_of};
+use field::{Fault, Place, Reason, Size};
+use sheets::{Sheet, number_of};
 
-// A number that is at fault.
-fn fault(reason: u8) -> Step
-    ensures { result ≡ Rattle.field.specs.Workings.Checking.fault reason }
-{
-    Step {
-        reason: reason,
-        x: 0,
-        y: 0,
-    }
-}
-
-// A hop to the neighbour (x, y), which is nearer d or is not.
-fn step_to(nearer: bool, x: usize, y: usize) -> Step
-    ensures { result ≡ step_to nearer x y }
+// A hop to the neighbour p, which is nearer d or is not.
+#[tactic(auto, using(std::proofs::lemmas::Bool::Decides::nat_tests), unfolding(field::specs::Workings::Checking::step_to))]
+fn step_to(nearer: bool, p: Place) -> Result<Place, Reason>
+    ensures { step_told result ≡ step_to nearer p.x p.y }
 {
     if nearer {
-        return Step {
-            reason: NO_FAULT,
-            x: x,
-            y: y,
-        };
-    }
-    fault(NOT_NEARER)
-}
-
-// The hop from (x, y) to the crossing n. Nothing lies past the edge: the numbers one more and one
-// less are neighbours only within the row.
-fn neighbour(w: usize, h: usize, dx: usize, dy: usize, x: usize, y: usize, n: usize) -> Step
-    requires { Stands w h x y n }
-    ensures { result ≡ neighbour_of w dx dy x y n }
-{
-    let here = number_of(w, h, x, y);
-    if n == here + 1 && x + 1 < w {
-        return step_to(x < dx, x + 1, y);
-    }
-    if n + 1 == here && 0 < x {
-        return step_to(dx < x, x - 1, y);
-    }
-    if n == here + w {
-        return step_to(y < dy, x, y + 1);
-    }
-    if n + w == here {
-        return step_to(dy < y, x, y - 1);
-    }
-    fault(NOT_A_NEIGHBOUR)
-}
-
-// The number n after (x, y), which is not d.
-fn step(s: &[u8], w: usize, h: usize, dx: usize, dy: usize, x: usize, y: usize, n: usize) -> Step
-    requires { Numbered w h s.now x y n }
-    ensures { result ≡ step_of s.now w h dx dy x y n }
-{
-    if n >= s.len() {
-        return fault(OFF_THE_MAP);
-    }
-    if s[n] > 0 {
-        return fault(IS_CLOSED);
-    }
-    neighbour(w, h, dx, dy, x, y, n)
-}
-
-// What is found of a list.
-fn found(reason: u8, position: usize) -> Finding
-    ensures { result ≡ Rattle.field.specs.Workings.Checking.found reason position }
-{
-    Finding {
-        reason: reason,
-        position: position,
+        Ok(p)
+    } else {
+        Err(Reason::NotNearer)
     }
 }
 
-// The list from its second number on, after s. Each number is looked at once; (x, y) is the
-// crossing before position p.
-fn rest(
-    s: &[u8],
-    w: usize,
-    h: usize,
-    sx: usize,
-    sy: usize,
-    dx: usize,
-    dy: usize,
-    drawn: &[u16],
-) -> Finding
-    requires { Asked w h s.now sx sy }
-    ensures { result ≡ check_from s.now w h dx dy 1 sx sy (drop 1 drawn.now) }
+// The hop from p to the crossing n, on the way to d. Nothing lies past the edge: the numbers one
+// more and one less are neighbours only within the row.
+#[tactic(auto, using(std::proofs::lemmas::Bool::Decides::nat_tests, field::specs::Limits::side_is), unfolding(field::specs::Workings::Checking::neighbour_of))]
+fn neighbour(map: Size, d: Place, p: Place, n: u16) -> Result<Place, Reason>
+    requires { On map.w map.h p.x p.y }
+    ensures { step_told result ≡ neighbour_of map.w d.x d.y p.x p.y n }
 {
-    let mut x = sx;
-    let mut y = sy;
-    let mut p: usize = 1;
-    while p < drawn.len() {
-        if x == dx && y == dy {
-            return found(WENT_ON, p);
+    let here = number_of(map, p);
+    let n = usize::from(n);
+    if n == here + 1 && p.x + 1 < map.w {
+        return step_to(p.x < d.x, Place { x: p.x + 1, y: p.y });
+    }
+    if n + 1 == here && 0 < p.x {
+        return step_to(d.x < p.x, Place { x: p.x - 1, y: p.y });
+    }
+    if n == here + map.w {
+        return step_to(p.y < d.y, Place { x: p.x, y: p.y + 1 });
+    }
+    if n + map.w == here {
+        return step_to(d.y < p.y, Place { x: p.x, y: p.y - 1 });
+    }
+    Err(Reason::NotANeighbour)
+}
+
+// The number n after p, which is not d.
+#[tactic(auto, using(std::proofs::lemmas::Bool::Decides::nat_tests), unfolding(field::specs::Workings::Checking::step_of))]
+fn step(s: Sheet<'_>, d: Place, p: Place, n: u16) -> Result<Place, Reason>
+    requires { On s.map.w s.map.h p.x p.y }
+    ensures { step_told result ≡ step_of s.entry.cells.now s.entry.map.w s.entry.map.h d.x d.y p.x p.y n }
+{
+    let k = usize::from(n);
+    if k >= s.cells.len() {
+        return Err(Reason::OffTheMap);
+    }
+    if s.cells[k] > 0 {
+        return Err(Reason::IsClosed);
+    }
+    neighbour(s.map, d, p, n)
+}
+
+// What is at fault, and where.
+fn fault(reason: Reason, position: usize) -> Fault
+    ensures { result ≡ record { reason = reason; position = position } }
+{
+    Fault { reason, position }
+}
+
+// The list after its first number, which was that of s. Each number is looked at once; p is the
+// crossing before it.
+#[tactic(auto, using(crate::proofs::Going::onward_after, crate::proofs::Going::onward_end, crate::proofs::Going::onward_short))]
+fn rest(s: Sheet<'_>, from: Place, d: Place, drawn: &[u16]) -> Result<(), Fault>
+    requires { On s.map.w s.map.h from.x from.y }
+    ensures { finding_told result ≡ check_from s.entry.cells.now s.entry.map.w s.entry.map.h d.x d.y 1 from.x from.y drawn.now }
+{
+    let mut p = from;
+    for (k, n) in drawn.iter().enumerate() {
+        let position = k + 1;
+        if p == d {
+            return Err(fault(Reason::WentOn, position));
         }
-        let t = step(s, w, h, dx, dy, x, y, drawn[p] as usize);
-        if t.reason != NO_FAULT {
-            return found(t.reason, p);
-        }
-        x = t.x;
-        y = t.y;
-        p += 1;
+        p = step(s, d, p, *n).map_err(|reason| fault(reason, position))?;
     }
-    if x == dx && y == dy {
-        return found(NO_FAULT, 0);
+    if p == d {
+        return Ok(());
     }
-    found(ENDED_EARLY, p)
+    Err(fault(Reason::EndedEarly, drawn.len() + 1))
 }
 
 // What is found of the whole list. At position 0 only the start can be wrong, or closed.
-pub fn check(
-    s: &[u8],
-    w: usize,
-    h: usize,
-    sx: usize,
-    sy: usize,
-    dx: usize,
-    dy: usize,
-    drawn: &[u16],
-) -> Finding
-    requires { Asked w h s.now sx sy }
-    ensures { Finds w h (Marked s.now w h) sx sy dx dy drawn.now result }
+pub fn check(s: Sheet<'_>, from: Place, to: Place, drawn: &[u16]) -> Result<(), Fault>
+    requires { On s.map.w s.map.h from.x from.y }
+    ensures { Finds s.entry.map.w s.entry.map.h (Marked s.entry.cells.now s.entry.map.w s.entry.map.h) from.x from.y to.x to.y drawn.now (finding_told result) }
 {
-    if drawn.len() == 0 {
-        return found(ENDED_EARLY, 0);
+    let Some((first, others)) = drawn.split_first() else {
+        return Err(fault(Reason::EndedEarly, 0));
+    };
+    if usize::from(*first) != number_of(s.map, from) {
+        return Err(fault(Reason::WrongStart, 0));
     }
-    let n = drawn[0] as usize;
-    if n != number_of(w, h, sx, sy) {
-        return found(WRONG_START, 0);
+    if s.at(from) > 0 {
+        return Err(fault(Reason::IsClosed, 0));
     }
-    if mark(s, w, h, sx, sy) > 0 {
-        return found(IS_CLOSED, 0);
-    }
-    rest(s, w, h, sx, sy, dx, dy, drawn)
+    rest(s, from, to, others)
 }

@@ -2,7 +2,7 @@
 use Rattle.std.specs.Prelude.{◌≡◌, List, ℕ, ◌+◌, ◌*◌, ◌<◌, ◌≤◌, length, get_or}
 use Rattle.field.specs.Labels.{Closed}
 use Rattle.rows.specs.Rows.{Lit, Rows}
-use Rattle.closing.specs.Growth.{StillWord, Sweeps, Sweeping}
+use Rattle.closing.specs.Growth.{StillWord, Sweeps}
 
 -- What is lit in t are the closed crossings, if the rocks are what is lit in s.
 pub record Closes (w h : ℕ) (s t : List ℕ) : Type 0 where
@@ -18,11 +18,11 @@ pub record Marks (w h : ℕ) (c f : List ℕ) : Type 0 where
   pub calm : (y : ℕ) → y < h → get_or f (y + 1) 0 ≡ 0 → (j : ℕ) → 64 * j < w → StillWord w c y j
 
 pub record LookingAll (w h : ℕ) (c f : List ℕ) : Type 0 where
-  pub sweeping : Sweeping w h c
+  pub rows : Rows w h c
   pub marks : Marks w h c f
 
 pub record LookingRow (w h y : ℕ) (c f : List ℕ) : Type 0 where
-  pub sweeping : Sweeping w h c
+  pub rows : Rows w h c
   pub marks : Marks w h c f
   pub in_y : y < h
 
@@ -30,4 +30,3 @@ pub record LookingRow (w h y : ℕ) (c f : List ℕ) : Type 0 where
 pub record Looks (D : ℕ → ℕ → Type 0) (w h : ℕ) (s f t g : List ℕ) (r : ℕ) : Type 0 where
   pub sweeps : Sweeps D w h s t r
   pub marks : Marks w h t g
-  pub size : length g ≡ length f

@@ -1,6 +1,5 @@
 -- A map of bits grown word by word: nothing is lost, and nothing is set that is not closed.
-use Rattle.std.specs.Prelude.{◌≡◌, List, [], ◌∷◌, ℕ, ◌+◌, ◌*◌, ◌<◌, ◌≤◌, length, get_or}
-use Rattle.field.specs.Map.{Sides}
+use Rattle.std.specs.Prelude.{◌≡◌, Bool, true, false, List, [], ◌∷◌, ℕ, ◌+◌, ◌-◌, ◌*◌, ◌<◌, ◌≤◌, length, get_or}
 use Rattle.field.specs.Labels.{Closed}
 use Rattle.rows.specs.Layout.{spot, spot_north, spot_south, spot_east, spot_west}
 use Rattle.rows.specs.Rows.{Lit, Rows, MaskAt}
@@ -35,16 +34,18 @@ pub record Sweeps (D : ℕ → ℕ → Type 0) (w h : ℕ) (s t : List ℕ) (r :
   pub more : (r ≡ 0 → ⊥) → total s < total t
   pub frame : (i : ℕ) → ((y j : ℕ) → D y j → i ≡ spot y j → ⊥) → get_or t i 0 ≡ get_or s i 0
 
--- What is asked of a map, a row, a word that is grown.
-pub record Sweeping (w h : ℕ) (s : List ℕ) : Type 0 where
-  pub sides : Sides w h
-  pub rows : Rows w h s
+-- Whose turn it is, k turns after the first of n: from the first on, or from the last back. It is its
+-- own turn's turn.
+abbrev pub turn_of : Bool → ℕ → ℕ → ℕ
+turn_of false n k = k
+turn_of true n k = n - 1 - k
 
+-- What is asked of a row, a word that is grown.
 pub record GrowingRow (w h y : ℕ) (s : List ℕ) : Type 0 where
-  pub sweeping : Sweeping w h s
+  pub rows : Rows w h s
   pub in_y : y < h
 
 pub record Growing (w h y j : ℕ) (s : List ℕ) : Type 0 where
-  pub sweeping : Sweeping w h s
+  pub rows : Rows w h s
   pub in_y : y < h
   pub in_x : 64 * j < w

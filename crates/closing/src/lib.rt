@@ -9,10 +9,13 @@
 // closes, and one to a row besides.
 #![tactic(auto)]
 
-ghost use Rattle.std.specs.Prelude.{◌≡◌, ℕ, ◌*◌, ◌<◌, length};
+ghost use Rattle.std.specs.Prelude.{◌≡◌, ℕ, ◌*◌, ◌<◌};
+ghost use Rattle.rows.specs.Rows.{Rows};
 ghost use Rattle.closing.specs.Steps.{Stepped, Spread, Filled};
-ghost use Rattle.closing.specs.Growth.{Sweeping, GrowingRow, Growing, Sweeps};
+ghost use Rattle.closing.specs.Growth.{turn_of, GrowingRow, Growing, Sweeps};
 ghost use Rattle.closing.specs.Closes.{LookingRow, LookingAll, Looks, Closes};
+
+use field::Size;
 
 // The words on the four sides of a word, from the index of its row and its place there.
 const HERE: usize = rows::FIRST;
@@ -47,19 +50,19 @@ fn spread(v: u64, p: u64) -> u64
     let mut g = v;
     let mut east = p;
     let mut west = p;
-    let mut d = 1u64;
-    while d < 64 {
+    for k in 0..6u32 {
+        let d = 1u64 << k;
         g |= (east & (g << d)) | (west & (g >> d));
         east &= east << d;
         west &= west >> d;
-        d *= 2;
     }
     g
 }
 
 // Grows a word until a step changes nothing. Most words come to rest after a step or two. In a word
 // that does not, runs are closed all along: a crossing with a closed neighbour to the north or
-// south closes as soon as the one east or west of it does. So no word takes more than a few turns.
+// south closes as soon as the one east or west of it does. So no word takes more than a few turns;
+// how many, no count says beforehand.
 fn fill(v: u64, n: u64, s: u64, e: u64, w: u64, mask: u64) -> u64
     ensures { Filled v n s e w mask result }
 {
@@ -76,12 +79,14 @@ fn fill(v: u64, n: u64, s: u64, e: u64, w: u64, mask: u64) -> u64
     t
 }
 
-// Grows word j of row y. Hands back the bits that changed.
-fn grow_word(c: &mut [u64], w: usize, h: usize, y: usize, j: usize) -> u64
-    requires { Growing w h y j c.old }
-    ensures { Sweeps (λ (b a : ℕ). (b ≡ y) × (a ≡ j)) w h c.old c.new result }
+// Grows word j of row y. Hands back the bits that changed. A call of it would cost a row of one word
+// as much as the word.
+#[inline(always)]
+fn grow_word(c: &mut [u64], map: Size, y: usize, j: usize) -> u64
+    requires { Growing map.w map.h y j c.old }
+    ensures { Sweeps (λ (b a : ℕ). (b ≡ y) × (a ≡ j)) map.w map.h c.old c.new result }
 {
-    let mask = rows::mask_at(w, j);
+    let mask = rows::mask_at(map.w, j);
     let i = y * rows::STRIDE + j;
     let v = c[i + HERE];
     let r = fill(
@@ -96,60 +101,56 @@ fn grow_word(c: &mut [u64], w: usize, h: usize, y: usize, j: usize) -> u64
     r ^ v
 }
 
-// Grows the words of row y one after the other, to the east and to the west.
-fn grow_east(c: &mut [u64], w: usize, h: usize, y: usize) -> u64
-    requires { GrowingRow w h y c.old }
-    ensures { Sweeps (λ (b a : ℕ). (b ≡ y) × (64 * a < w)) w h c.old c.new result }
+// Whose turn it is, k turns after the first of n: from the first on, or from the last back.
+fn turn(back: bool, n: usize, k: usize) -> usize
+    requires { k < n }
+    ensures { result ≡ turn_of back n k }
 {
-    let mut d = 0u64;
-    let mut j = 0;
-    while 64 * j < w {
-        d |= grow_word(c, w, h, y, j);
-        j += 1;
-    }
-    d
+    if back { n - 1 - k } else { k }
 }
 
-fn grow_west(c: &mut [u64], w: usize, h: usize, y: usize) -> u64
-    requires { GrowingRow w h y c.old }
-    ensures { Sweeps (λ (b a : ℕ). (b ≡ y) × (64 * a < w)) w h c.old c.new result }
+// Grows the words of row y one after the other, to the east or back to the west: in place where it is
+// called, each way has code of its own.
+#[inline(always)]
+fn grow_words(c: &mut [u64], map: Size, y: usize, back: bool) -> u64
+    requires { GrowingRow map.w map.h y c.old }
+    ensures { Sweeps (λ (b a : ℕ). (b ≡ y) × (64 * a < map.w)) map.w map.h c.old c.new result }
 {
+    let n = rows::words_of(map);
     let mut d = 0u64;
-    let mut j = (w + 63) / 64;
-    while 0 < j {
-        j -= 1;
-        d |= grow_word(c, w, h, y, j);
+    for k in 0..n {
+        d |= grow_word(c, map, y, turn(back, n, k));
     }
     d
 }
 
 // Grows row y: to the east, and where that changes something, back to the west. A row of one word
 // needs neither loop nor way back.
-fn grow_row(c: &mut [u64], w: usize, h: usize, y: usize) -> u64
-    requires { GrowingRow w h y c.old }
-    ensures { Sweeps (λ (b a : ℕ). (b ≡ y) × (64 * a < w)) w h c.old c.new result }
+fn grow_row(c: &mut [u64], map: Size, y: usize) -> u64
+    requires { GrowingRow map.w map.h y c.old }
+    ensures { Sweeps (λ (b a : ℕ). (b ≡ y) × (64 * a < map.w)) map.w map.h c.old c.new result }
 {
-    if w <= 64 {
-        return grow_word(c, w, h, y, 0);
+    if map.w <= 64 {
+        return grow_word(c, map, y, 0);
     }
-    let d = grow_east(c, w, h, y);
+    let d = grow_words(c, map, y, false);
     if d == 0 {
         return d;
     }
-    let e = grow_west(c, w, h, y);
+    let e = grow_words(c, map, y, true);
     d | e
 }
 
 // Grows row y if it is marked in f. A row that does not change is marked no more; one that does
 // marks the rows on either side.
-fn look_row(c: &mut [u64], f: &mut [u8], w: usize, h: usize, y: usize) -> u64
-    requires { LookingRow w h y c.old f.old }
-    ensures { Looks (λ (b a : ℕ). (b ≡ y) × (64 * a < w)) w h c.old f.old c.new f.new result }
+fn look_row(c: &mut [u64], f: &mut [u8], map: Size, y: usize) -> u64
+    requires { LookingRow map.w map.h y c.old f.old }
+    ensures { Looks (λ (b a : ℕ). (b ≡ y) × (64 * a < map.w)) map.w map.h c.old f.old c.new f.new result }
 {
     if f[y + 1] == 0 {
         return 0;
     }
-    let d = grow_row(c, w, h, y);
+    let d = grow_row(c, map, y);
     if d == 0 {
         f[y + 1] = 0;
         return 0;
@@ -159,43 +160,27 @@ fn look_row(c: &mut [u64], f: &mut [u8], w: usize, h: usize, y: usize) -> u64
     d
 }
 
-// Looks at every row, to the north and to the south. Hands back the bits that changed.
-fn sweep_north(c: &mut [u64], f: &mut [u8], w: usize, h: usize) -> u64
-    requires { LookingAll w h c.old f.old }
-    ensures { Looks (λ (b a : ℕ). (b < h) × (64 * a < w)) w h c.old f.old c.new f.new result }
+// Looks at every row, to the north or back to the south: each way has code of its own, as above.
+// Hands back the bits that changed.
+#[inline(always)]
+fn sweep(c: &mut [u64], f: &mut [u8], map: Size, back: bool) -> u64
+    requires { LookingAll map.w map.h c.old f.old }
+    ensures { Looks (λ (b a : ℕ). (b < map.h) × (64 * a < map.w)) map.w map.h c.old f.old c.new f.new result }
 {
     let mut d = 0u64;
-    let mut y = 0;
-    while y < h {
-        d |= look_row(c, f, w, h, y);
-        y += 1;
+    for k in 0..map.h {
+        d |= look_row(c, f, map, turn(back, map.h, k));
     }
     d
 }
 
-fn sweep_south(c: &mut [u64], f: &mut [u8], w: usize, h: usize) -> u64
-    requires { LookingAll w h c.old f.old }
-    ensures { Looks (λ (b a : ℕ). (b < h) × (64 * a < w)) w h c.old f.old c.new f.new result }
+// Sweeps until nothing changes: then what is set is closed. No count says beforehand how often.
+fn settle(c: &mut [u64], f: &mut [u8], map: Size)
+    requires { LookingAll map.w map.h c.old f.old }
+    ensures { Closes map.w map.h c.old c.new }
 {
-    let mut d = 0u64;
-    let mut y = h;
-    while 0 < y {
-        y -= 1;
-        d |= look_row(c, f, w, h, y);
-    }
-    d
-}
-
-// Sweeps until nothing changes: then what is set is closed.
-fn settle(c: &mut [u64], f: &mut [u8], w: usize, h: usize)
-    requires { LookingAll w h c.old f.old }
-    ensures { Closes w h c.old c.new × (length f.new ≡ length f.old) }
-{
-    loop {
-        if sweep_north(c, f, w, h) == 0 {
-            return;
-        }
-        if sweep_south(c, f, w, h) == 0 {
+    'sweeps: loop {
+        if sweep(c, f, map, false) == 0 || sweep(c, f, map, true) == 0 {
             return;
         }
     }
@@ -203,10 +188,10 @@ fn settle(c: &mut [u64], f: &mut [u8], w: usize, h: usize)
 
 // Sets the bit of every closed crossing, where those of the rocks are set. Every row is marked at
 // first.
-pub fn close(c: &mut [u64], w: usize, h: usize)
-    requires { Sweeping w h c.old }
-    ensures { Closes w h c.old c.new }
+pub fn close(c: &mut [u64], map: Size)
+    requires { Rows map.w map.h c.old }
+    ensures { Closes map.w map.h c.old c.new }
 {
     let mut f = [1u8; MARKS];
-    settle(c, &mut f, w, h);
+    settle(c, &mut f, map);
 }

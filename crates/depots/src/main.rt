@@ -27,7 +27,7 @@ const STDERR: i32 = 2;
 // Where the program stands: the run so far; the bytes at hand, which stand in the input buffer from
 // `from` up to `held`; whether the input ends there; how much text is gathered; and whether to go
 // on.
-#[derive(Clone, Copy)]
+#[derive(Clone, Copy, Debug, PartialEq, Eq)]
 struct State {
     run: Run,
     from: usize,
@@ -37,12 +37,10 @@ struct State {
     going: bool,
 }
 
-// Hands over the text that stands at the front of the output, and answers whether that went well. A
-// program has no exit status to tell a closed output by, so it says it on standard error.
-fn print(out: &[u8], end: usize) -> bool
-    requires { end ≤ length out.now }
-{
-    let written = io::write_all(STDOUT, &out[..end]);
+// Hands over the text, and answers whether that went well. A program has no exit status to tell a
+// closed output by, so it says it on standard error.
+fn print(text: &[u8]) -> bool {
+    let written = io::write_all(STDOUT, text);
     if !written {
         io::write_all(STDERR, b"depots: the text could not be written\n");
     }
@@ -54,13 +52,8 @@ fn keep(src: &mut [u8], from: usize, held: usize) -> usize
     requires { Keeping src.old from held }
     ensures { Kept src.old from held src.new result }
 {
-    let n = held - from;
-    let mut i = 0;
-    while i < n {
-        src[i] = src[from + i];
-        i += 1;
-    }
-    n
+    src.copy_within(from..held, 0);
+    held - from
 }
 
 // Reads until the buffer is full or the input ends.
@@ -69,16 +62,12 @@ fn read_on(src: &mut [u8], s: State) -> State
     ensures { Filled (length src.old) s result }
 {
     let left = keep(src, s.from, s.held);
-    let more = io::read_full(STDIN, &mut src[left..]);
-    let run = s.run;
-    let held = left + more;
+    let held = left + io::read_full(STDIN, &mut src[left..]);
     State {
-        run,
         from: 0,
         held,
         ended: held < src.len(),
-        text: s.text,
-        going: s.going,
+        ..s
     }
 }
 
@@ -90,15 +79,10 @@ fn hand_over(out: &[u8], s: State) -> State
     if s.text <= TEXT {
         return s;
     }
-    let going = print(out, s.text);
-    let run = s.run;
     State {
-        run,
-        from: s.from,
-        held: s.held,
-        ended: s.ended,
         text: 0,
-        going,
+        going: print(&out[..s.text]),
+        ..s
     }
 }
 
@@ -107,15 +91,11 @@ fn finish(out: &[u8], s: State, end: usize) -> State
     requires { end ≤ length out.now }
     ensures { Finished s result }
 {
-    print(out, end);
-    let run = s.run;
+    print(&out[..end]);
     State {
-        run,
-        from: s.from,
-        held: s.held,
-        ended: s.ended,
         text: 0,
         going: false,
+        ..s
     }
 }
 
@@ -124,17 +104,13 @@ fn go_on(out: &[u8], s: State, used: usize, end: usize, run: Run) -> State
     requires { MayGoOn (length out.now) s used end }
     ensures { Advanced s used run result }
 {
-    hand_over(
-        out,
-        State {
-            run,
-            from: s.from + used,
-            held: s.held,
-            ended: s.ended,
-            text: s.text + end,
-            going: s.going,
-        },
-    )
+    let told = State {
+        run,
+        from: s.from + used,
+        text: s.text + end,
+        ..s
+    };
+    hand_over(out, told)
 }
 
 // One step of the run, over the bytes at hand.
@@ -142,19 +118,18 @@ fn turn(src: &mut [u8], out: &mut [u8], s: State) -> State
     requires { MayStep src.old out.old s }
     ensures { StepMade s result }
 {
-    let from = s.from;
-    let held = s.held;
     let text = s.text;
-    let step = planning::step(&src[from..held], s.ended, s.run, &mut out[text..]);
-    match step {
-        Next::Map(used, end, next) => go_on(out, s, used, end, next),
-        Next::Last(end) => finish(out, s, text + end),
+    let next = planning::step(&src[s.from..s.held], s.ended, s.run, &mut out[text..]);
+    match next {
+        Next::Map { used, end, run } => go_on(out, s, used, end, run),
+        Next::Last { end } => finish(out, s, text + end),
         Next::More => read_on(src, s),
     }
 }
 
 // All steps of the run. It ends: with each turn a map is read, or the buffer is filled, after which
-// a map can be told, or it is the last.
+// a map can be told, or it is the last. How many turns that takes is the input's to say, so the
+// loop has no count.
 fn go(src: &mut [u8], out: &mut [u8])
     requires { Buffers src.old out.old }
 {

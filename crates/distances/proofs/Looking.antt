@@ -18,10 +18,6 @@ pub record Bare (s : List ℕ) (w h : ℕ) (t : Way) (x y k : ℕ) : Type 0 wher
   pub free : (i a b : ℕ) → i < k → Along t i x y a b → ¬ Marked s w h a b
 
 module _ {s : List ℕ} {w h : ℕ} {t : Way} {x y : ℕ} where
-  -- At first nothing has been met.
-  pub bare_none : Bare s w h t x y 0
-  bare_none = record { free = λ i a b l. absurd (omega arith) }
-
   -- An open crossing with nothing marked on the hops after the first.
   pub bare_first : {n : ℕ} → at s w x y ≡ 0 → ((k a b : ℕ) → 0 < k → k < n → Along t k x y a b → ¬ Marked s w h a b) → Bare s w h t x y n
   bare_first {n} z f = record { free = λ k a b p l. go k a b p l (dec_lt 0 k) }

@@ -1,6 +1,6 @@
 -- A look one way from a crossing to the map's edge: how far it goes.
 use Rattle.std.specs.Prelude.{◌≡◌, ℕ, ◌-◌, ◌<◌, ◌≤◌}
-use Rattle.field.specs.Map.{side, Sides, On}
+use Rattle.field.specs.Map.{side, On}
 use Rattle.field.specs.Distances.{Way, eastward, southward, westward, northward, Along}
 use Rattle.distances.specs.declared.look.Way as look
 use Rattle.distances.specs.declared.look.Way.TheVariants.{East, South, West, North}
@@ -26,7 +26,6 @@ pub record Edge (t : Way) (w h x y n : ℕ) : Type 0 where
 
 -- A crossing of a map within the limits, and k hops from it that stay on the map.
 pub record Within (t : Way) (w h x y k : ℕ) : Type 0 where
-  pub sides : Sides w h
   pub on : On w h x y
   pub near : k ≤ reach t w h x y
 

@@ -9,25 +9,26 @@ ghost use Rattle.field.specs.Distances.{Distances, Assured};
 ghost use Rattle.field.specs.Workings.Sheet.{Marked};
 ghost use Rattle.field.specs.Workings.Looking.{enough_of, axis_of};
 ghost use Rattle.distances.specs.Promise.{AskedHome};
-ghost use Rattle.sheets.specs.Promise.{Asked};
+ghost use Rattle.field.specs.Map.{On};
 
-use field::NO_DISTANCE;
-use look::{Way, look};
-use sheets::mark;
+use field::{NO_DISTANCE, Place};
+pub use look::Way;
+use look::look;
+use sheets::Sheet;
 
 // What stands for a distance where there is none.
 pub const NONE: u16 = NO_DISTANCE;
 
-// The four distances of (x, y), east, south, west, north.
-pub fn distances(s: &[u8], w: usize, h: usize, x: usize, y: usize) -> [u16; 4]
-    requires { Asked w h s.now x y }
-    ensures { Distances (Marked s.now w h) x y result }
+// The four distances of a crossing, east, south, west, north.
+pub fn distances(s: Sheet<'_>, p: Place) -> [u16; 4]
+    requires { On s.map.w s.map.h p.x p.y }
+    ensures { Distances (Marked s.entry.cells.now s.entry.map.w s.entry.map.h) p.x p.y result }
 {
     [
-        look(s, w, h, x, y, Way::East),
-        look(s, w, h, x, y, Way::South),
-        look(s, w, h, x, y, Way::West),
-        look(s, w, h, x, y, Way::North),
+        look(s, p, Way::East),
+        look(s, p, Way::South),
+        look(s, p, Way::West),
+        look(s, p, Way::North),
     ]
 }
 
@@ -36,10 +37,7 @@ pub fn distances(s: &[u8], w: usize, h: usize, x: usize, y: usize) -> [u16; 4]
 fn enough(offset: usize, n: u16) -> bool
     ensures { result ≡ enough_of offset n }
 {
-    if n == NONE {
-        return true;
-    }
-    offset <= n as usize
+    n == NONE || offset <= usize::from(n)
 }
 
 // Whether one axis lets home at m be assured for the place at p, with home's distances upwards and
@@ -56,20 +54,14 @@ pub fn axis(up: u16, down: u16, m: usize, p: usize) -> bool
     true
 }
 
-// Whether home (hx, hy) is assured for (x, y).
-pub fn assured(s: &[u8], w: usize, h: usize, hx: usize, hy: usize, x: usize, y: usize) -> bool
-    requires { AskedHome w h s.now hx hy x y }
-    ensures { (result ≡ true) ↔ Assured w h (Marked s.now w h) hx hy x y }
+// Whether home is assured for a place.
+pub fn assured(s: Sheet<'_>, home: Place, p: Place) -> bool
+    requires { AskedHome s.map.w s.map.h home.x home.y p.x p.y }
+    ensures { (result ≡ true) ↔ Assured s.entry.map.w s.entry.map.h (Marked s.entry.cells.now s.entry.map.w s.entry.map.h) home.x home.y p.x p.y }
 {
-    if mark(s, w, h, hx, hy) != 0 {
+    if s.at(home) != 0 || s.at(p) != 0 {
         return false;
     }
-    if mark(s, w, h, x, y) != 0 {
-        return false;
-    }
-    let d = distances(s, w, h, hx, hy);
-    if axis(d[0], d[2], hx, x) {
-        return axis(d[3], d[1], hy, y);
-    }
-    false
+    let [east, south, west, north] = distances(s, home);
+    axis(east, west, home.x, p.x) && axis(north, south, home.y, p.y)
 }

@@ -1,68 +1,60 @@
 // The distance of one crossing, one way: the hops to the first mark along its row or column, or
 // none. The crossing itself is looked at first, so that a closed crossing has 0.
+ghost use Rattle.field.specs.Map.{On};
 ghost use Rattle.field.specs.Distances.{Clear};
 ghost use Rattle.field.specs.Workings.Sheet.{Marked};
-ghost use Rattle.sheets.specs.Promise.{Placed, Asked};
 ghost use Rattle.distances.specs.Looking.{towards, Edge, Within, After};
 
 use crate::NONE;
-use sheets::mark;
+use field::{Place, Size};
+use sheets::Sheet;
 
 // "east, south, west, north, in that order"
-#[derive(Clone, Copy)]
-pub(crate) enum Way {
+#[derive(Clone, Copy, Debug, PartialEq, Eq)]
+pub enum Way {
     East,
     South,
     West,
     North,
 }
 
-// A crossing.
-#[derive(Clone, Copy)]
-struct Place {
-    x: usize,
-    y: usize,
-}
-
-// The hops from (x, y) to the map's edge that way.
-fn room(w: usize, h: usize, x: usize, y: usize, way: Way) -> usize
-    requires { Placed w h x y }
-    ensures { Edge (towards way) w h x y result }
-{
-    match way {
-        Way::East => w - 1 - x,
-        Way::South => y,
-        Way::West => x,
-        Way::North => h - 1 - y,
+impl Way {
+    // The hops from a place to the map's edge this way.
+    fn room(self, map: Size, p: Place) -> usize
+        requires { On map.w map.h p.x p.y }
+        ensures { Edge (towards self) map.w map.h p.x p.y result }
+    {
+        match self {
+            Way::East => map.w - 1 - p.x,
+            Way::South => p.y,
+            Way::West => p.x,
+            Way::North => map.h - 1 - p.y,
+        }
     }
-}
 
-// The crossing k hops that way from (x, y).
-fn after(w: usize, h: usize, x: usize, y: usize, way: Way, k: usize) -> Place
-    requires { Within (towards way) w h x y k }
-    ensures { After (towards way) w h x y k result.x result.y }
-{
-    match way {
-        Way::East => Place { x: x + k, y },
-        Way::South => Place { x, y: y - k },
-        Way::West => Place { x: x - k, y },
-        Way::North => Place { x, y: y + k },
+    // The crossing k hops this way from a place.
+    fn after(self, map: Size, p: Place, k: usize) -> Place
+        requires { Within (towards self) map.w map.h p.x p.y k }
+        ensures { After (towards self) map.w map.h p.x p.y k result.x result.y }
+    {
+        match self {
+            Way::East => Place { x: p.x + k, y: p.y },
+            Way::South => Place { x: p.x, y: p.y - k },
+            Way::West => Place { x: p.x - k, y: p.y },
+            Way::North => Place { x: p.x, y: p.y + k },
+        }
     }
 }
 
 // One look for all four ways: from the crossing itself to the edge, until a mark is met.
-pub(crate) fn look(s: &[u8], w: usize, h: usize, x: usize, y: usize, way: Way) -> u16
-    requires { Asked w h s.now x y }
-    ensures { Clear (Marked s.now w h) (towards way) x y result }
+pub(crate) fn look(s: Sheet<'_>, p: Place, way: Way) -> u16
+    requires { On s.map.w s.map.h p.x p.y }
+    ensures { Clear (Marked s.entry.cells.now s.entry.map.w s.entry.map.h) (towards way) p.x p.y result }
 {
-    let n = room(w, h, x, y, way);
-    let mut k = 0;
-    while k <= n {
-        let p = after(w, h, x, y, way, k);
-        if mark(s, w, h, p.x, p.y) != 0 {
+    for k in 0..=way.room(s.map, p) {
+        if s.at(way.after(s.map, p, k)) != 0 {
             return k as u16;
         }
-        k += 1;
     }
     NONE
 }

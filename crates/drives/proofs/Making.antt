@@ -1,43 +1,20 @@
--- What asking for a drive makes, as the promise says it, from what the region finds: refused with
--- it, or by the route's length, or the drive written.
-use Rattle.std.proofs.Common.{◌≡◌, ℕ, ◌+◌, ◌<◌, ◌≤◌, List, [], ◌∷◌, length, refl, inl, inr, arith}
+-- What asking for a drive makes, as the promise says it, where the region is found and the route
+-- has room.
+use Rattle.std.proofs.Common.{◌≡◌, ℕ, ◌+◌, ◌≤◌, List, [], ◌∷◌, length, Ok, refl, inl, inr, arith}
 use Rattle.field.specs.Map.{On, dist}
 use Rattle.field.specs.Drives.{HasDrive, InRegion, InOut, is_in, is_out, RegionSheet}
 use Rattle.field.specs.Workings.Sheet.{Marked}
 use Rattle.field.proofs.Workings.RegionLaws.{has_drive_in}
 use Rattle.field.proofs.Workings.ChoosingLaws.{driven_looks}
 use Rattle.calls.specs.Rules.{Gives, region_rows, drive_rows, route_rule}
-use Rattle.calls.specs.RuleLaws.{None, gives_none, gives_early, gives_later}
-use Rattle.calls.specs.AfterLaws.{region_made, route_kept}
+use Rattle.calls.specs.RuleLaws.{None, gives_none, gives_later}
+use Rattle.calls.specs.AfterLaws.{region_made}
 use Rattle.regions.specs.Promise.{Regioned}
-use Rattle.regions.specs.declared.Found.TheVariants.{EndClosed, Nowhere, Somewhere}
-use Rattle.drives.specs.declared.Made.TheVariants.{Closed, NoDrive, Short, Filled}
 use Rattle.drives.specs.Promise.{Makes}
 use Rattle.drives.specs.Hops.{DriveWritten}
 
--- Where the region is refused, so is the drive, by the same number.
-early : {w h : ℕ} {C : ℕ → ℕ → Type 0} {sx sy dx dy : ℕ} (route : List ℕ) (n : ℕ) → Gives (region_rows w h C sx sy dx dy) n → ¬ (n ≡ 0)
-    → Gives (drive_rows w h C sx sy dx dy route) n
-early {w} {h} {C} {sx} {sy} {dx} {dy} route n = gives_early (region_rows w h C sx sy dx dy) (route_rule sx sy dx dy route ∷ []) n
-
 module _ {w h : ℕ} {s : List ℕ} {sx sy dx dy : ℕ} {g g' : List ℕ} where
-  pub makes_closed : {z : ℕ} {route : List ℕ} → Regioned w h s sx sy dx dy g g' EndClosed → Makes w h s sx sy dx dy z g g' route route Closed
-  makes_closed {route = route} f =
-      record {
-        given = early route _ f.given (λ e. omega arith);
-        region_after = f.region_after;
-        route_after = route_kept (λ e. omega arith);
-      }
-
-  pub makes_none : {z : ℕ} {route : List ℕ} → Regioned w h s sx sy dx dy g g' Nowhere → Makes w h s sx sy dx dy z g g' route route NoDrive
-  makes_none {route = route} f =
-      record {
-        given = early route _ f.given (λ e. omega arith);
-        region_after = f.region_after;
-        route_after = route_kept (λ e. omega arith);
-      }
-
-  module _ (f : Regioned w h s sx sy dx dy g g' Somewhere) where
+  module _ (f : Regioned w h s sx sy dx dy g g' (Ok tt)) where
     -- The region sheet is made, and neither 8 nor 9 applies. What stands there at s tells that
     -- there is a drive.
     pub made_sheet : RegionSheet w h (Marked s w h) sx sy dx dy g'
@@ -63,17 +40,9 @@ module _ {w h : ℕ} {s : List ℕ} {sx sy dx dy : ℕ} {g g' : List ℕ} where
               none = λ v. n ((has_drive_in w h (Marked s w h) sx sy dx dy).0 v);
             }))
 
-    pub makes_short : {z : ℕ} {route : List ℕ} → length route < dist sx sy dx dy + 1 → Makes w h s sx sy dx dy z g g' route route Short
-    makes_short {route = route} l =
-        record {
-          given = later route _ (inl (l, refl));
-          region_after = region_made (λ e. omega (arith, e.1)) made_sheet;
-          route_after = route_kept (λ e. omega arith);
-        }
-
     -- What is written is the chooser's drive.
     pub makes_drive : {z n z' : ℕ} {route route' : List ℕ} → HasDrive w h (Marked s w h) sx sy dx dy → n ≡ dist sx sy dx dy + 1 → n ≤ length route
-        → DriveWritten w h g' sx sy dx dy z route route' z' → Makes w h s sx sy dx dy z g g' route route' (Filled n z')
+        → DriveWritten w h g' sx sy dx dy z route route' z' → Makes w h s sx sy dx dy z g g' route route' z' (Ok n)
     makes_drive {z} {n} {z'} {route} v e l k =
         record {
           given = later route _ (inr (λ b. omega arith, refl));

@@ -2,7 +2,7 @@
 -- chooser makes from the crossing it has come to, is always the whole drive from s; and that
 -- crossing is always in the region, so there is a candidate as long as it is not d.
 use Rattle.std.proofs.Common.{◌≡◌, ℕ, suc, ◌+◌, ◌<◌, ◌≤◌, true, ◌⊎◌, List, [], ◌∷◌, ◌++◌, length, take, drop, set, sym, refl, ap, ◌∙◌, inl, inr, append_assoc, add-one, arith, length-set, take-suc-set, drop-set-lt}
-use Rattle.field.specs.Map.{side, number, Apart, gap, dist}
+use Rattle.field.specs.Map.{Sides, side, number, Apart, gap, dist}
 use Rattle.field.specs.Drives.{InRegion, RegionSheet}
 use Rattle.field.specs.Chooser.{Candidate}
 use Rattle.field.specs.Workings.Sheet.{Marked}
@@ -12,8 +12,7 @@ use Rattle.field.proofs.Workings.RegionLaws.{has_drive_in, region_sheet_draws}
 use Rattle.field.proofs.Workings.ChooserLaws.{candidate_toward, candidate_some, chosen_candidate}
 use Rattle.field.proofs.Workings.ChoosingLaws.{chosen_looks}
 use Rattle.drives.specs.declared.chooser.Choice.{Choice}
-use Rattle.regions.specs.Promise.{MayFind}
-use Rattle.regions.specs.Passes.{MayPass}
+use Rattle.regions.specs.Promise.{Ends}
 use Rattle.drives.specs.Hops.{Choosable, Chose, Steered, DriveWritten}
 use Rattle.regions.proofs.LookLaws.{east_west_tells, north_south_tells}
 
@@ -74,9 +73,8 @@ module _ (w h : ℕ) (g : List ℕ) (sx sy dx dy z : ℕ) where
     abbrev C : ℕ → ℕ → Type 0
     C = Marked s.steered.closed w h
 
-    pub onward_looked : MayPass w h g dx dy x y
-    onward_looked =
-        let o = s.steered.looked in record { sides = o.sides; size = o.size; from = o.from; to = s.within.on }
+    pub onward_ends : Ends w h dx dy x y
+    onward_ends = record { from = s.steered.ends.to; to = s.within.on }
 
     -- The next number has its place on the route.
     pub onward_room : k < length route'
@@ -88,16 +86,16 @@ module _ (w h : ℕ) (g : List ℕ) (sx sy dx dy z : ℕ) where
     pub onward_choosable : k < dist sx sy dx dy → Choosable w h g dx dy x y
     onward_choosable l =
         record {
-          looked = onward_looked;
+          ends = onward_ends;
           some = candidate_tested w h C sx sy dx dy g s.steered.sheet (candidate_some w h C sx sy dx dy s.within (away l)).2;
         }
 
     pub onward_next : k < dist sx sy dx dy → (v : ℕ) → v ≡ number w x y → (c : Choice) → Chose w h g dx dy x y state c
-        → Onward w h g sx sy dx dy z route (set route' k v) c.x c.y c.state (k + 1)
+        → Onward w h g sx sy dx dy z route (set route' k v) c.at.x c.at.y c.state (k + 1)
     onward_next l v i c t =
         let a = chosen_candidate w h C sx sy dx dy
-        ((chosen_looks w h C sx sy dx dy g s.steered.sheet state c.x c.y c.state s.within (away l)).1 (t.x_is, t.y_is, t.state_is)) in
-        let d = drive_next (dist x y dx dy) x y state (dist c.x c.y dx dy) (omega (arith, a.nearer)) t.x_is t.y_is t.state_is in
+        ((chosen_looks w h C sx sy dx dy g s.steered.sheet state c.at.x c.at.y c.state s.within (away l)).1 (t.x_is, t.y_is, t.state_is)) in
+        let d = drive_next (dist x y dx dy) x y state (dist c.at.x c.at.y dx dy) (omega (arith, a.nearer)) t.x_is t.y_is t.state_is in
         record {
           steered = s.steered;
           within = a.within;
@@ -108,26 +106,25 @@ module _ (w h : ℕ) (g : List ℕ) (sx sy dx dy z : ℕ) where
           after = sym d.1 ∙ s.after;
         }
 
-    pub onward_end : dist sx sy dx dy ≤ k → (v : ℕ) → v ≡ number w x y → DriveWritten w h g sx sy dx dy z route (set route' k v) state
-    onward_end l v i =
-        let m : k ≡ dist sx sy dx dy = omega (arith, s.left) in
+    pub onward_end : {n : ℕ} → n ≡ dist sx sy dx dy → n ≤ k → (v : ℕ) → v ≡ number w x y → DriveWritten w h g sx sy dx dy z route (set route' n v) state
+    onward_end {n} e l v i =
+        let m : n ≡ k = omega (arith, s.left) in
         let d = drive_end (dist x y dx dy) x y state (omega (arith, s.left)) in
-        record {
+        rw (m) (record {
           front =
-              ap (λ (n : ℕ). take (n + 1) (set route' k v)) (sym m)
+              ap (λ (a : ℕ). take (a + 1) (set route' k v)) (sym e ∙ m)
               ∙ front_last route' k v onward_room
-              ∙ ap (λ (r : List ℕ). take k route' ++ r) (ap (λ (n : ℕ). n ∷ []) i ∙ sym d.0)
+              ∙ ap (λ (r : List ℕ). take k route' ++ r) (ap (λ (a : ℕ). a ∷ []) i ∙ sym d.0)
               ∙ s.front;
           rest = drop-set-lt (dist sx sy dx dy + 1) route' k v (omega (arith, m)) ∙ s.rest;
           state = sym d.1 ∙ s.after;
-        }
+        })
 
 -- A distance on a map within the limits is small.
 gap_lt : {a b m : ℕ} → a < m → b < m → gap a b < m
 unfolding gap
 gap_lt l r = omega arith
 
-pub dist_small : {w h sx sy dx dy : ℕ} {s g : List ℕ} → MayFind w h s g sx sy dx dy → dist sx sy dx dy + 1 < 65536
+pub dist_small : {w h ax ay bx by : ℕ} → Sides w h → Ends w h ax ay bx by → dist ax ay bx by + 1 < 65536
 unfolding side
-dist_small k =
-    omega (arith, k.sides.most_w, k.sides.most_h, gap_lt k.from.in_x k.to.in_x, gap_lt k.from.in_y k.to.in_y)
+dist_small s k = omega (arith, s.most_w, s.most_h, gap_lt k.from.in_x k.to.in_x, gap_lt k.from.in_y k.to.in_y)

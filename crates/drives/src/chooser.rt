@@ -1,108 +1,75 @@
 // The chooser: its choice at a crossing, and the drive that it makes.
 ghost use Rattle.std.specs.Prelude.{◌≡◌};
-ghost use Rattle.field.specs.Map.{gap};
-ghost use Rattle.drives.specs.Hops.{Choosable, Chose, Steered, DriveWritten};
+ghost use Rattle.regions.specs.Promise.{Ends};
+ghost use Rattle.drives.specs.Hops.{Choosable, Chose, Steered, DriveWritten, Reckoned, row_taken};
 
 use super::draw;
+use field::{Place, Size};
 use regions::looks::{east_west, north_south};
-use sheets::{hop, number_of};
+use sheets::{Sheet, hop, number_of};
 
 // The lowest state whose top bit is 1.
 const TOP_BIT: u32 = 2147483648;
 
 // Where the chooser goes, and the state after its choice.
-#[derive(Clone, Copy)]
+#[derive(Clone, Copy, Debug, PartialEq, Eq)]
 pub struct Choice {
-    pub x: usize,
-    pub y: usize,
+    pub at: Place,
     pub state: u32,
 }
 
-// The offset along one axis.
-pub fn offset(a: usize, b: usize) -> usize
-    ensures { result ≡ gap a b }
+// "their distance: east-west plus north-south offset"
+pub fn distance(map: Size, a: Place, b: Place) -> usize
+    requires { Ends map.w map.h a.x a.y b.x b.y }
+    ensures { Reckoned a.x a.y b.x b.y result }
 {
-    if a < b {
-        return b - a;
-    }
-    a - b
+    a.x.abs_diff(b.x) + a.y.abs_diff(b.y)
 }
 
-// The choice at (x, y) in state z. The candidates are the marked hops towards d. Draw once: with
+// Whether the chooser goes along the row, by which candidates there are and the state drawn: with
 // two, the top bit 0 takes the east-west one; with one, take it, and the draw is thrown away.
-pub fn choose(
-    g: &[u8],
-    w: usize,
-    h: usize,
-    dx: usize,
-    dy: usize,
-    x: usize,
-    y: usize,
-    z: u32,
-) -> Choice
-    requires { Choosable w h g.now dx dy x y }
-    ensures { Chose w h g.now dx dy x y z result }
+fn takes_row(row: bool, column: bool, state: u32) -> bool
+    ensures { result ≡ row_taken row column state }
 {
-    let e = east_west(g, w, h, dx, dy, x, y);
-    let n = north_south(g, w, h, dx, dy, x, y);
-    let t = draw(z);
-    if e {
-        if n {
-            if t < TOP_BIT {
-                return Choice {
-                    x: hop(x, dx),
-                    y: y,
-                    state: t,
-                };
-            }
-            return Choice {
-                x: x,
-                y: hop(y, dy),
-                state: t,
-            };
-        }
-        return Choice {
-            x: hop(x, dx),
-            y: y,
-            state: t,
-        };
-    }
-    Choice {
-        x: x,
-        y: hop(y, dy),
-        state: t,
-    }
+    row && (!column || state < TOP_BIT)
 }
 
-// Writes the chooser's drive from (sx, sy) in state z to the route's front, and hands back the
-// state after it. There are as many hops as the distance; k of them are made.
-pub fn write_drive(
-    g: &[u8],
-    w: usize,
-    h: usize,
-    sx: usize,
-    sy: usize,
-    dx: usize,
-    dy: usize,
-    z: u32,
-    route: &mut [u16],
-) -> u32
-    requires { Steered w h g.now sx sy dx dy route.old }
-    ensures { DriveWritten w h g.now sx sy dx dy z route.old route.new result }
+// The choice at p in state z. The candidates are the marked hops towards d. Draw once.
+pub fn choose(g: Sheet<'_>, to: Place, p: Place, z: u32) -> Choice
+    requires { Choosable g.map.w g.map.h g.cells.now to.x to.y p.x p.y }
+    ensures { Chose g.entry.map.w g.entry.map.h g.entry.cells.now to.x to.y p.x p.y z result }
 {
-    let n = offset(sx, dx) + offset(sy, dy);
-    let mut x = sx;
-    let mut y = sy;
-    let mut state = z;
-    let mut k = 0;
-    while k < n {
-        route[k] = number_of(w, h, x, y) as u16;
-        let c = choose(g, w, h, dx, dy, x, y, state);
-        x = c.x;
-        y = c.y;
-        state = c.state;
-        k += 1;
+    let row = east_west(g, to, p);
+    let column = north_south(g, to, p);
+    let state = draw(z);
+    let at = if takes_row(row, column, state) {
+        Place {
+            x: hop(p.x, to.x),
+            y: p.y,
+        }
+    } else {
+        Place {
+            x: p.x,
+            y: hop(p.y, to.y),
+        }
+    };
+    Choice { at, state }
+}
+
+// Writes the chooser's drive to the route's front, from the state lent, which becomes the one after
+// it. There are as many hops as the distance; k of them are made. Sixteen bits hold each number:
+// that is proved, so the casts need no test.
+pub fn write_drive(g: Sheet<'_>, from: Place, to: Place, route: &mut [u16], state: &mut u32)
+    requires { Steered g.map.w g.map.h g.cells.now from.x from.y to.x to.y route.old }
+    ensures { DriveWritten g.entry.map.w g.entry.map.h g.entry.cells.now from.x from.y to.x to.y state.old route.old route.new state.new }
+{
+    let n = distance(g.map, from, to);
+    let mut at = from;
+    for k in 0..n {
+        route[k] = number_of(g.map, at) as u16;
+        let c = choose(g, to, at, *state);
+        at = c.at;
+        *state = c.state;
     }
-    route[k] = number_of(w, h, x, y) as u16;
-    state
+    route[n] = number_of(g.map, at) as u16;
 }

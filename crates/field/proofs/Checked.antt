@@ -1,7 +1,7 @@
 -- What is proved of the check of a drawn list (request 01), for any set C of closed crossings.
 use Rattle.std.specs.Prelude.{◌≡◌, List, ◌↔◌, ℕ}
 use Rattle.std.proofs.Common.{sym, ◌∙◌, subst}
-use Rattle.field.specs.declared.Finding.{Finding}
+use Rattle.field.specs.Checks.{Finding}
 use Rattle.field.specs.Map.{On, OnMap}
 use Rattle.field.specs.Rule.{Gives, gives_one}
 use Rattle.field.specs.Reasons.{no_fault}

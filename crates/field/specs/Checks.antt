@@ -1,10 +1,15 @@
 -- Drives drawn by the dispatch desk (request 01): what is at fault with a drawn list of crossing
 -- numbers, at which position, and why. C tells the closed crossings. Positions count from 0.
 use Rattle.std.specs.Prelude.{◌≡◌, List, [], ◌∷◌, ℕ, ◌+◌, ◌<◌, length, get_or}
-use Rattle.field.specs.declared.Finding.{Finding}
 use Rattle.field.specs.Map.{On, number, Near, dist}
 use Rattle.field.specs.Rule.{Rule, rule, Gives}
 use Rattle.field.specs.Reasons.{no_fault, wrong_start, off_the_map, is_closed, not_a_neighbour, not_nearer, ended_early, went_on}
+
+-- What the checker finds of a drawn list: why it is refused, and the position of the first crossing
+-- at fault; both are 0 for a list that is accepted.
+pub record Finding : Type 0 where
+  pub reason : ℕ
+  pub position : ℕ
 
 -- The list has the crossing (x, y) of the map at position p.
 pub record Has (w h : ℕ) (l : List ℕ) (p x y : ℕ) : Type 0 where

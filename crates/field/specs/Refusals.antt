@@ -1,7 +1,9 @@
--- Document 01's refusal numbers and those of document 02, each by a name; src/refusals.rt has the
--- same for the code. "The lowest number that applies is given", but for reading a file, and for 19,
+-- Document 01's refusal numbers and those of document 02, each by a name, and the number of each
+-- refusal of the code. "The lowest number that applies is given", but for reading a file, and for 19,
 -- which comes before 10, and 20, which comes before 8.
-use Rattle.std.specs.Prelude.{ℕ}
+use Rattle.std.specs.Prelude.{ℕ, Result, Ok, Err}
+use Rattle.field.specs.declared.refusals.Refusal.{Refusal}
+use Rattle.field.specs.declared.refusals.Refusal.TheVariants.{BadSize, BadSheet, BadList, BadPlace, IdInUse, IdNotInUse, NoSlot, EndClosed, NoDrive, ShortRoute, NotAssured, BadLetters, BadHeader, ShortRaster, LongRaster, SharedCrossing, ShortOutput, BadLargest, NoLines, NotTaken}
 
 -- "(0 on success)"
 abbrev pub success : ℕ
@@ -87,3 +89,30 @@ no_lines = 19
 -- "sheet not taken" (Req 09)
 abbrev pub sheet_not_taken : ℕ
 sheet_not_taken = 20
+
+-- The number of a refusal, and the number that an outcome answers.
+abbrev pub number_of : Refusal → ℕ
+number_of BadSize = bad_size
+number_of BadSheet = bad_sheet
+number_of BadList = bad_list
+number_of BadPlace = bad_place
+number_of IdInUse = id_in_use
+number_of IdNotInUse = id_not_in_use
+number_of NoSlot = no_slot
+number_of EndClosed = end_closed
+number_of NoDrive = no_drive
+number_of ShortRoute = short_route
+number_of NotAssured = not_assured
+number_of BadLetters = bad_letters
+number_of BadHeader = bad_header
+number_of ShortRaster = short_raster
+number_of LongRaster = long_raster
+number_of SharedCrossing = shared_crossing
+number_of ShortOutput = short_output
+number_of BadLargest = bad_largest
+number_of NoLines = no_lines
+number_of NotTaken = sheet_not_taken
+
+abbrev pub told : {A : Type 0} → Result A Refusal → ℕ
+told (Ok _) = success
+told (Err r) = number_of r

@@ -2,9 +2,14 @@
 // compute. The definitions stand in specs/; here stands only what code and definitions share.
 #![tactic(auto)]
 
-pub mod refusals; // refusals.rt: the refusal numbers
+mod adding; // adding.rt: a depot's four numbers, of two parts together
+pub mod refusals; // refusals.rt: why a call is refused
 pub mod reasons; // reasons.rt: why a drawn list is refused
-pub mod morning; // morning.rt: the refusal of a call that is not exported yet
+
+ghost use Rattle.field.specs.Map.{Sides};
+
+pub use reasons::{Fault, Reason};
+pub use refusals::Refusal;
 
 // "Width and height: 1 to 64 each"; "Raise width and height to 256" (document 02, Req 07).
 pub const SIDE: usize = 256;
@@ -30,10 +35,25 @@ pub const OLD_MARK: u8 = 255;
 // "Markers read from a map file get 65,535" (document 02, Req 08)
 pub const TALLEST: u16 = 65535;
 
+// A map's size, within the limits: its width and height, in crossings.
+#[derive(Clone, Copy, Debug, PartialEq, Eq)]
+pub struct Size {
+    pub w: usize,
+    pub h: usize,
+    pub ghost within: { Sides w h },
+}
+
+// A place: its column and its row.
+#[derive(Clone, Copy, Debug, PartialEq, Eq)]
+pub struct Place {
+    pub x: usize,
+    pub y: usize,
+}
+
 // A rock marker: a sixteen-bit id, the crossing on which it stands, and its height in centimetres,
 // laid out for C.
 #[repr(C)]
-#[derive(Clone, Copy)]
+#[derive(Clone, Copy, Debug, PartialEq, Eq)]
 pub struct Marker {
     pub id: u16,
     pub x: u16,
@@ -41,25 +61,31 @@ pub struct Marker {
     pub height: u16,
 }
 
-// What the checker finds of a drawn list: why it is refused, and the position of the first crossing
-// at fault; both are 0 for a list that is accepted.
-#[derive(Clone, Copy)]
-pub struct Finding {
-    pub reason: u8,
-    pub position: usize,
+// What labelling hands back: the numbers of rocks' crossings, shut crossings and groups.
+#[derive(Clone, Copy, Debug, Default, PartialEq, Eq)]
+pub struct Labelled {
+    pub rocks: usize,
+    pub shut: usize,
+    pub groups: usize,
 }
 
-// What is found of one number of a drawn list: the first reason that applies to it; or none, and
-// the crossing.
-#[derive(Clone, Copy)]
-pub struct Step {
-    pub reason: u8,
-    pub x: usize,
-    pub y: usize,
+// What reading a map file finds: the map's size, and how many of its crossings are rocks.
+#[derive(Clone, Copy, Debug, PartialEq, Eq)]
+pub struct Reading {
+    pub map: Size,
+    pub rocks: usize,
+}
+
+// A hop's answer: it names every permitted hop, the east-west one first; at home it is There.
+#[derive(Clone, Copy, Debug, PartialEq, Eq)]
+pub enum Hops {
+    There,
+    One(Place),
+    Two(Place, Place),
 }
 
 // "each corner as depot (southwest, southeast, northwest, northeast)" (document 02, Req 05)
-#[derive(Clone, Copy)]
+#[derive(Clone, Copy, Debug, PartialEq, Eq)]
 pub enum Depot {
     SouthWest,
     SouthEast,
@@ -70,7 +96,7 @@ pub enum Depot {
 // How well a depot is placed (Req 05): "open crossings; those for which the depot is assured; those
 // not assured that have a shortest drive; those with none". The numbers are wide enough for the
 // sums over every map of a run.
-#[derive(Clone, Copy)]
+#[derive(Clone, Copy, Debug, Default, PartialEq, Eq)]
 pub struct Placing {
     pub opens: u64,
     pub assured: u64,

@@ -6,83 +6,36 @@ use mathlib.Core.List.{List, [], ◌∷◌, ◌++◌, append_assoc, append-nil}
 use mathlib.Core.Logic.{◌↔◌, inl}
 use Prim.Native.Nat.{ℕ, ◌+◌, ◌*◌, ◌-◌, ◌<◌, ◌≤◌}
 use native.Mathlib.Omega.{arith}
-use native.Mathlib.Decide.{ℕ_discrete}
-use lib.ListN.{length, get_or, take, drop, length-append, length-drop, take-append-drop}
+use lib.ListN.{length, take, drop, length-append, length-drop, take-append-drop}
 use lib.Seq.{length-take-le, drop-append-le, drop-drop}
 use Rattle.field.specs.Map.{Sides, most_markers}
-use Rattle.field.specs.Refusals.{no_slot, bad_letters, bad_header, short_raster, bad_size}
+use Rattle.field.specs.Refusals.{no_slot, bad_header, short_raster, bad_size}
 use Rattle.mapfile.specs.Header.{Header}
 use Rattle.mapfile.specs.HeaderCut.{probe}
 use Rattle.mapfile.specs.Raster.{row_bytes, RawFault, raw_short, raw_long}
 use Rattle.mapfile.specs.File.{raw, Letters}
-use Rattle.mapfile.specs.Following.{most_bytes, MapFirst, FirstFault, no_letters, no_header, cut_short, Shows, FirstRefused, FirstLong}
+use Rattle.mapfile.specs.Following.{most_bytes, refused, too_long, MapFirst, FirstFault, no_header, cut_short, Shows, FirstRefused, FirstLong}
 use Rattle.mapfile.proofs.FollowingOutcome.{map_stands, fault_stands, long_stands}
-use Rattle.mapfile.specs.Pieces.{LettersCut, nothing, the_first}
-use Rattle.mapfile.proofs.Pieces.{
-  shows_now,
-  letters_undecided,
-  letters_shown,
-  header_shown,
-  header_undecided,
-  sides_shown,
-  many_shown,
-  raster_undecided,
-}
+use Rattle.mapfile.specs.Pieces.{LettersCut}
+use Rattle.mapfile.proofs.Pieces.{shows_now, letters_undecided, header_shown, header_undecided, sides_shown, many_shown, raster_undecided}
 use Rattle.header.specs.HeaderParts.{HeadRead}
 use Rattle.header.specs.Found.{head_found, head_missing}
-use Rattle.header.specs.declared.Head.{Head}
-use Rattle.header.specs.declared.Head.TheVariants.{Body, Missing}
-use Rattle.header.specs.Letters.{SameTwo, two_first, first_two}
-use Rattle.raster.specs.RasterParts.{RasterIn, ReadAs}
-use Rattle.raster.specs.declared.Judged.{Judged}
-use Rattle.following.specs.Promise.{Follows, FirstRead}
-use Rattle.following.specs.Parts.{MapEnds, Faulty, Waits, PieceRead, past_of, Joined, HasHeader, Lettered, Headless, MayReadRaster}
-use Rattle.following.specs.declared.First.{First}
-use Rattle.following.specs.declared.First.TheVariants.{Map, Refused, Long, Unended}
-
-never_both : {B : Type 0} {b : Bool} → b ≡ true → b ≡ false → B
-never_both e f = let z : ◌≡◌ {A = ℕ} 0 1 = cc in absurd (omega arith)
+use Rattle.raster.specs.RasterParts.{RasterIn}
+use Rattle.following.specs.Promise.{Follows, Stands, MapRead, FirstRead}
+use Rattle.following.specs.Parts.{MapEnds, Faulty, Waits, PieceRead, Joined, HasHeader, Lettered, Headless, MayReadRaster}
+use Rattle.std.proofs.Common.{Option as Maybe, Some, None, is_some, Ok}
+use Rattle.following.specs.declared.Piece.{Piece}
 
 -- A fault where the input ends, and one that shows.
 fault_ended : {src : List ℕ} {ended : Bool} {n : ℕ} → ended ≡ true → FirstFault src n → Faulty src ended n
-fault_ended e f = record { fault = f; shows = λ g. never_both e g }
+fault_ended e f = record { fault = f; shows = λ g. cc }
 
 fault_shown : {src : List ℕ} {ended : Bool} {n : ℕ} → Shows src n → Faulty src ended n
 fault_shown {src} s = record { fault = shows_now src s; shows = λ g. s }
 
 -- The letters.
-pub letters_are : (src : List ℕ) → SameTwo src (80 ∷ 52 ∷ []) → Letters raw src (drop 2 src)
-letters_are src s = two_first src 80 52 s
-
-pub letters_not : {src : List ℕ} → ¬ SameTwo src (80 ∷ 52 ∷ []) → (after : List ℕ) → ¬ Letters raw src after
-letters_not {src} n after e = n (first_two src after 80 52 e)
-
-pub letters_end : {src : List ℕ} {ended : Bool} → ended ≡ true → ¬ SameTwo src (80 ∷ 52 ∷ []) → Faulty src ended bad_letters
-letters_end e n = fault_ended e (no_letters (letters_not n) refl)
-
 pub letters_wait : {src : List ℕ} {ended : Bool} → ended ≡ false → LettersCut src → Waits src ended
 letters_wait e c = record { going = e; undecided = letters_undecided c }
-
-pub letters_bad : {src : List ℕ} {ended : Bool} → ¬ SameTwo src (80 ∷ 52 ∷ []) → ¬ LettersCut src → Faulty src ended bad_letters
-letters_bad {src} n c = fault_shown (letters_shown src (letters_not n) c)
-
--- Fewer than two bytes, by their number.
-pub cut_none : (src : List ℕ) → length src ≡ 0 → LettersCut src
-cut_none [] e = nothing refl
-cut_none (a ∷ l) e = absurd (omega arith)
-
-pub cut_two : (src : List ℕ) → 1 < length src → ¬ LettersCut src
-cut_two src p (nothing e) = omega (arith, ap length e)
-cut_two src p (the_first e) = omega (arith, ap length e)
-
-pub cut_one : (src : List ℕ) → ¬ (length src ≡ 0) → length src ≤ 1 → (get_or src 0 0 ≡ 80) ↔ LettersCut src
-cut_one [] n m = absurd (n refl)
-cut_one (a ∷ []) n m = (λ e. let p : a ≡ 80 = e in the_first (cc), first)
-  where
-    first : LettersCut (a ∷ []) → a ≡ 80
-    first (nothing e) = absurd (omega (arith, ap length e))
-    first (the_first e) = cc
-cut_one (a ∷ b ∷ l) n m = absurd (omega arith)
 
 -- The header.
 pub header_none : {l : List ℕ} → ((w h : ℕ) (body : List ℕ) → ¬ Header (w ∷ h ∷ []) l body) → ¬ HasHeader l
@@ -95,16 +48,19 @@ pub letters_long : {src after : List ℕ} → Letters raw src after → 2 ≤ le
 letters_long {src} {after} e = omega (arith, ap length e)
 
 -- The bytes with the probe after them, read.
-module _ {src : List ℕ} (m : Lettered src) (tried : List ℕ) (j : Joined src tried) {numbers : List ℕ} {r : Head} (n : length numbers ≡ 2)
-    (k : HeadRead (take (length src + length probe) tried) 2 numbers r) where
-  probed : drop 2 (take (length src + length probe) tried) ≡ drop 2 src ++ probe
+module _ {src : List ℕ} (m : Lettered src) (tried : List ℕ) (j : Joined src tried) where
+  abbrev whole_tried : List ℕ
+  whole_tried = take (length src + length probe) tried
+
+  probed : drop 2 whole_tried ≡ drop 2 src ++ probe
   probed = ap (drop 2) j ∙ drop-append-le 2 src probe (letters_long m.letters)
 
-  pub probe_found : {e : ℕ} → r ≡ Body e → HasHeader (drop 2 src ++ probe)
-  probe_found q = subst HasHeader probed (record { w = _; h = _; body = _; header = (head_found _ 2 numbers r _ n k q).1 })
-
-  pub probe_missing : r ≡ Missing → ¬ HasHeader (drop 2 src ++ probe)
-  probe_missing q = subst (λ (l : List ℕ). ¬ HasHeader l) probed (header_none (head_missing _ 2 numbers r n k q))
+  pub probe_told : (numbers : List ℕ) → length numbers ≡ 2 → (r : Maybe ℕ) → HeadRead whole_tried 2 numbers r
+      → (is_some r ≡ true) ↔ HasHeader (drop 2 src ++ probe)
+  probe_told numbers n (Some e) k =
+      (λ z. subst HasHeader probed (record { w = _; h = _; body = _; header = head_found n k }), λ z. refl)
+  probe_told numbers n None k =
+      (λ z. cc, λ z. absurd (subst (λ (l : List ℕ). ¬ HasHeader l) probed (header_none (head_missing whole_tried 2 numbers n k)) z))
 
 -- Without a header.
 module _ {src : List ℕ} (m : Headless src) where
@@ -123,7 +79,7 @@ pub sides_bad : {src after body : List ℕ} {w h : ℕ} {ended : Bool} → Lette
 sides_bad {src} {after} l k s = fault_shown (sides_shown (record { after = after; letters = l; header = k }) s)
 
 -- The raster, of r bytes a row.
-module _ {src : List ℕ} {at w h r : ℕ} {out : List ℕ} (m : MayReadRaster src at w h out) (row : r ≡ row_bytes w) where
+module _ {src : List ℕ} {at w h r : ℕ} {out : List ℕ} (sides : Sides w h) (m : MayReadRaster src at w h out) (row : r ≡ row_bytes w) where
   size : h * r ≡ h * row_bytes w
   size = ap (λ (k : ℕ). h * k) row
 
@@ -131,10 +87,10 @@ module _ {src : List ℕ} {at w h r : ℕ} {out : List ℕ} (m : MayReadRaster s
   raster_short l = omega (arith, length-drop at src, size)
 
   pub raster_end : {ended : Bool} → ended ≡ true → length src - at < h * r → Faulty src ended short_raster
-  raster_end e l = fault_ended e (cut_short w h (drop at src) m.begins m.sides (raster_short l) refl)
+  raster_end e l = fault_ended e (cut_short w h (drop at src) m.begins sides (raster_short l) refl)
 
   pub raster_wait : {ended : Bool} → ended ≡ false → length src - at < h * r → Waits src ended
-  raster_wait e l = record { going = e; undecided = raster_undecided m.begins m.sides (raster_short l) }
+  raster_wait e l = record { going = e; undecided = raster_undecided m.begins sides (raster_short l) }
 
   -- It is whole: the bytes read are its own.
   module _ (l : h * r ≤ length src - at) where
@@ -152,25 +108,19 @@ module _ {src : List ℕ} {at w h r : ℕ} {out : List ℕ} (m : MayReadRaster s
         sym (take-append-drop (at + h * r - at) (drop at src))
         ∙ ap (λ (k : List ℕ). own ++ k) (ap (λ (k : ℕ). drop k (drop at src)) count ∙ drop-drop (h * r) at src)
 
-    sound : (n : ℕ) → ¬ RawFault w h own n
-    sound n (raw_short p e) = omega (arith, own_length)
-    sound n (raw_long p e) = omega (arith, own_length)
+    -- It has no fault, since its length is right.
+    pub sound : {n : ℕ} → ¬ RawFault w h own n
+    sound (raw_short p e) = omega (arith, own_length)
+    sound (raw_long p e) = omega (arith, own_length)
 
-    module _ {bits : List ℕ} {j : Judged} (k : ReadAs raw w h own bits j) where
-      good : RasterIn raw w h own bits j.rocks
-      good = go (ℕ_discrete j.fault 0)
-        where
-          go : Dec (j.fault ≡ 0) → RasterIn raw w h own bits j.rocks
-          go (yes p) = k.good p
-          go (no p) = absurd (sound j.fault (k.faulty p))
-
+    module _ {bits : List ℕ} {rocks : ℕ} (good : RasterIn raw w h own bits rocks) where
       map : MapFirst src w h (take (h * w) bits) (drop (at + h * r) src)
-      map = record { body = drop at src; own = own; begins = m.begins; sides = m.sides; raster = good.raster; ends = own_rest }
+      map = record { body = drop at src; own = own; begins = m.begins; sides = sides; raster = good.raster; ends = own_rest }
 
-      pub raster_many : {ended : Bool} → most_markers < j.rocks → Faulty src ended no_slot
+      pub raster_many : {ended : Bool} → most_markers < rocks → Faulty src ended no_slot
       raster_many p = fault_shown (many_shown map (omega (arith, good.counted)))
 
-      pub raster_ends : j.rocks ≤ most_markers → MapEnds src w h (at + h * r) bits
+      pub raster_ends : rocks ≤ most_markers → MapEnds src w h (at + h * r) bits
       raster_ends p = record { within = omega (arith, m.within); map = map; few = omega (arith, good.counted) }
 
 -- What a piece tells stands for every input that begins with it.
@@ -180,11 +130,13 @@ refused_stands src s true n f t e =
     subst (λ (l : List ℕ). FirstRefused l n) (sym (ap (λ (k : List ℕ). src ++ k) (e refl) ∙ append-nil src)) (inl (s, f.fault))
 refused_stands src s false n f t e = fault_stands src s t (f.shows refl)
 
-pub piece_stands : (src : List ℕ) (ended : Bool) (out : List ℕ) (r : First) → length src ≤ most_bytes → PieceRead src ended out r → FirstRead src ended out r
-piece_stands src ended out (Map w h used) s p = record { within = p.within; stands = λ t f. map_stands src s t p.map p.few }
-piece_stands src ended out (Refused n) s p = λ t f. refused_stands src s ended n p t f
-piece_stands src ended out Long s p = absurd p
-piece_stands src ended out Unended s p = record { going = p.going; short = s; undecided = p.undecided }
+module _ (src : List ℕ) (s : length src ≤ most_bytes) (ended : Bool) where
+  pub piece_stands : (out : List ℕ) (o : Maybe Piece) → PieceRead src ended out (Ok o) → FirstRead src ended out (Ok o)
+  piece_stands out (Some q) p = record { within = p.within; stands = λ t f. map_stands src s t p.map p.few }
+  piece_stands out None p = record { going = p.going; short = s; undecided = p.undecided }
+
+  pub fault_stays : {n : ℕ} → Faulty src ended n → Stands src ended (λ t. refused n)
+  fault_stays {n} p = λ t f. refused_stands src s ended n p t f
 
 -- Of more bytes than a map may have, the first tell.
 module _ (src : List ℕ) (more : most_bytes < length src) where
@@ -205,13 +157,17 @@ module _ (src : List ℕ) (more : most_bytes < length src) where
       sym (append_assoc (drop used front) back t)
       ∙ ap (λ (l : List ℕ). l ++ t) (sym (drop-append-le used front back s) ∙ ap (drop used) (take-append-drop most_bytes src))
 
-  pub past_stands : (ended : Bool) (out : List ℕ) (r : First) → PieceRead front false out r → FirstRead src ended out (past_of r)
-  past_stands ended out (Map w h used) p =
+  pub past_map : {ended : Bool} {w h used : ℕ} {out : List ℕ} → MapEnds front w h used out → MapRead src ended w h used out
+  past_map p =
       record {
         within = omega (arith, p.within, front_length);
-        stands = λ t f. rw (← whole t, ← rest used t p.within) (map_stands front (omega (arith, front_length)) (back ++ t) p.map p.few);
+        stands = λ t f. rw (← whole t, ← rest _ t p.within) (map_stands front (omega (arith, front_length)) (back ++ t) p.map p.few);
       }
-  past_stands ended out (Refused n) p = λ t f. subst (λ (l : List ℕ). FirstRefused l n) (whole t) (fault_stands front (omega (arith, front_length)) (back ++ t) (p.shows refl))
-  past_stands ended out Long p = absurd p
-  past_stands ended out Unended p =
+
+  pub past_fault : {ended : Bool} {n : ℕ} → Faulty front false n → Stands src ended (λ t. refused n)
+  past_fault {ended} {n} p =
+      λ t f. subst (λ (l : List ℕ). FirstRefused l n) (whole t) (fault_stands front (omega (arith, front_length)) (back ++ t) (p.shows refl))
+
+  pub past_long : {ended : Bool} → Waits front false → Stands src ended (λ t. too_long)
+  past_long p =
       λ t f. subst FirstLong (whole t) (long_stands front (back ++ t) front_length (omega (arith, length-append back t, length-drop most_bytes src)) p.undecided)

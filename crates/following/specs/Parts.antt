@@ -1,12 +1,13 @@
 -- What the parts of telling promise, of bytes that are not more than a map may have.
-use Rattle.std.specs.Prelude.{◌≡◌, Bool, false, List, [], ◌∷◌, ◌++◌, ℕ, ◌+◌, ◌*◌, ◌≤◌, length, take, drop}
-use Rattle.field.specs.Map.{side, Sides, most_markers}
+use Rattle.std.specs.Prelude.{◌≡◌, Option, Some, None, Result, Ok, Err, Bool, false, List, [], ◌∷◌, ◌++◌, ℕ, ◌+◌, ◌*◌, ◌≤◌, length, take, drop}
+use Rattle.field.specs.declared.refusals.Refusal.{Refusal}
+use Rattle.field.specs.Map.{side, most_markers}
+use Rattle.field.specs.Refusals.{number_of}
 use Rattle.mapfile.specs.Header.{Header}
 use Rattle.mapfile.specs.HeaderCut.{probe}
 use Rattle.mapfile.specs.File.{raw, Letters, Begins, markers_of}
 use Rattle.mapfile.specs.Following.{most_bytes, MapFirst, FirstFault, Shows, Undecided}
-use Rattle.following.specs.declared.First.{First}
-use Rattle.following.specs.declared.First.TheVariants.{Map, Refused, Long, Unended}
+use Rattle.following.specs.declared.Piece.{Piece}
 
 -- A map ends within the bytes.
 pub record MapEnds (src : List ℕ) (w h used : ℕ) (out : List ℕ) : Type 0 where
@@ -24,18 +25,10 @@ pub record Waits (src : List ℕ) (ended : Bool) : Type 0 where
   pub going : ended ≡ false
   pub undecided : Undecided src
 
-abbrev pub PieceRead : List ℕ → Bool → List ℕ → First → Type 0
-PieceRead src ended out (Map w h used) = MapEnds src w h used out
-PieceRead src ended out (Refused n) = Faulty src ended n
-PieceRead src ended out Long = ⊥
-PieceRead src ended out Unended = Waits src ended
-
--- More bytes follow than a map may have: what they do not tell is too long.
-abbrev pub past_of : First → First
-past_of (Map w h used) = Map w h used
-past_of (Refused n) = Refused n
-past_of Long = Long
-past_of Unended = Long
+abbrev pub PieceRead : List ℕ → Bool → List ℕ → Result (Option Piece) Refusal → Type 0
+PieceRead src ended out (Ok (Some p)) = MapEnds src p.map.w p.map.h p.used out
+PieceRead src ended out (Ok None) = Waits src ended
+PieceRead src ended out (Err r) = Faulty src ended (number_of r)
 
 -- The bytes and the probe after them stand at the front.
 abbrev pub Joined : List ℕ → List ℕ → Type 0
@@ -72,5 +65,4 @@ pub record Headless (src : List ℕ) : Type 0 where
 pub record MayReadRaster (src : List ℕ) (at w h : ℕ) (out : List ℕ) : Type 0 where
   pub within : at ≤ length src
   pub begins : Begins src raw w h (drop at src)
-  pub sides : Sides w h
   pub room : side * side ≤ length out

@@ -1,9 +1,11 @@
 -- The promise of `next_map`: what is told of the bytes at hand stands for every input that begins
 -- with them; and where nothing is told yet, nothing could be.
-use Rattle.std.specs.Prelude.{◌≡◌, Bool, true, false, List, [], ◌++◌, ℕ, ◌*◌, ◌≤◌, length, take, drop}
+use Rattle.std.specs.Prelude.{◌≡◌, Option, Some, None, Result, Ok, Err, Bool, true, false, List, [], ◌++◌, ℕ, ◌*◌, ◌≤◌, length, take, drop}
 use Rattle.mapfile.specs.Following.{most_bytes, Undecided, Outcome, a_map, refused, too_long, FirstIs}
-use Rattle.following.specs.declared.First.{First}
-use Rattle.following.specs.declared.First.TheVariants.{Map, Refused, Long, Unended}
+use Rattle.field.specs.Refusals.{number_of}
+use Rattle.following.specs.declared.Piece.{Piece}
+use Rattle.following.specs.declared.Stop.{Stop}
+use Rattle.following.specs.declared.Stop.TheVariants.{Refused, Long}
 
 -- These bytes may follow: any, or none where the input ends.
 abbrev pub Follows : Bool → List ℕ → Type 0
@@ -27,8 +29,8 @@ pub record NotTold (src : List ℕ) (ended : Bool) : Type 0 where
   pub undecided : Undecided src
 
 -- What each answer says.
-abbrev pub FirstRead : List ℕ → Bool → List ℕ → First → Type 0
-FirstRead src ended out (Map w h used) = MapRead src ended w h used out
-FirstRead src ended out (Refused n) = Stands src ended (λ t. refused n)
-FirstRead src ended out Long = Stands src ended (λ t. too_long)
-FirstRead src ended out Unended = NotTold src ended
+abbrev pub FirstRead : List ℕ → Bool → List ℕ → Result (Option Piece) Stop → Type 0
+FirstRead src ended out (Ok (Some p)) = MapRead src ended p.map.w p.map.h p.used out
+FirstRead src ended out (Ok None) = NotTold src ended
+FirstRead src ended out (Err (Refused r)) = Stands src ended (λ t. refused (number_of r))
+FirstRead src ended out (Err Long) = Stands src ended (λ t. too_long)

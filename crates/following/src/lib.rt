@@ -8,21 +8,33 @@ ghost use Rattle.field.specs.Map.{side};
 ghost use Rattle.mapfile.specs.HeaderCut.{probe};
 ghost use Rattle.mapfile.specs.Pieces.{LettersCut};
 ghost use Rattle.following.specs.Promise.{FirstRead};
-ghost use Rattle.following.specs.Parts.{PieceRead, MayRead, past_of, Joined, HasHeader, Lettered, MayReadHeader, Headless, MayReadRaster};
+ghost use Rattle.following.specs.Parts.{PieceRead, MayRead, Joined, HasHeader, Lettered, MayReadHeader, Headless, MayReadRaster};
+ghost use Rattle.following.specs.declared.Stop.TheVariants.{Refused};
 
-use field::MOST_MARKERS;
-use field::refusals::{BAD_HEADER, BAD_LETTERS, BAD_SIZE, NO_SLOT, SHORT_RASTER};
-use header::Head;
+use field::{MOST_MARKERS, Refusal, Size};
 use mapfile::MOST_BYTES;
+use raster::Format;
 
-// What the bytes at hand begin with: a map, by its width and height and how many bytes it has; the
-// number of the refusal; a map that is too long; or more bytes are needed to tell.
-#[derive(Clone, Copy)]
-pub enum First {
-    Map(usize, usize, usize),
-    Refused(u8),
+// A map that bytes begin with: its size, and how many of the bytes it has.
+#[derive(Clone, Copy, Debug, PartialEq, Eq)]
+pub struct Piece {
+    pub map: Size,
+    pub used: usize,
+}
+
+// Why the bytes begin with no map: they are refused, or a map that is too long.
+#[derive(Clone, Copy, Debug, PartialEq, Eq)]
+pub enum Stop {
+    Refused(Refusal),
     Long,
-    Unended,
+}
+
+impl From<Refusal> for Stop {
+    ghost from_gives = { λ refusal stop. stop ≡ Refused refusal };
+
+    fn from(refusal: Refusal) -> Stop {
+        Stop::Refused(refusal)
+    }
 }
 
 // As many bytes as a map may have, and the probe after them.
@@ -32,13 +44,7 @@ const TRIED: usize = MOST_BYTES + 6;
 fn letters_cut(src: &[u8]) -> bool
     ensures { (result ≡ true) ↔ LettersCut src.now }
 {
-    if src.len() == 0 {
-        return true;
-    }
-    if 1 < src.len() {
-        return false;
-    }
-    src[0] == b'P'
+    matches!(src, [] | [b'P'])
 }
 
 // Copies the bytes to the front, and the probe after them.
@@ -61,104 +67,88 @@ fn header_cut(src: &[u8]) -> bool
     join(src, &mut tried);
     let end = src.len() + 6;
     let mut sides = [0usize; 2];
-    let head = header::header(&tried[..end], 2, &mut sides);
-    match head {
-        Head::Body(_) => true,
-        Head::Missing => false,
-    }
+    header::header(&tried[..end], 2, &mut sides).is_some()
 }
 
 // Bytes that have the letters and no header: 13, unless the input goes on and may make one.
-fn headless(src: &[u8], ended: bool) -> First
+fn headless(src: &[u8], ended: bool) -> Result<Option<Piece>, Refusal>
     requires { Headless src.now }
     ensures { (out : List ℕ) → PieceRead src.now ended out result }
 {
-    if ended {
-        return First::Refused(BAD_HEADER);
+    if !ended && header_cut(src) {
+        return Ok(None);
     }
-    if header_cut(src) {
-        return First::Unended;
-    }
-    First::Refused(BAD_HEADER)
+    Err(Refusal::BadHeader)
 }
 
 // Reads the raster that begins at this place. It has as many bytes as its rows; what follows begins
 // the next map.
-fn read_raster(src: &[u8], ended: bool, at: usize, w: usize, h: usize, bits: &mut [u8]) -> First
-    requires { MayReadRaster src.now at w h bits.old }
+fn read_raster(
+    src: &[u8],
+    ended: bool,
+    at: usize,
+    map: Size,
+    bits: &mut [u8],
+) -> Result<Option<Piece>, Refusal>
+    requires { MayReadRaster src.now at map.w map.h bits.old }
     ensures { PieceRead src.now ended bits.new result }
 {
-    let size = h * raster::row_bytes(w);
+    let size = map.h * raster::row_bytes(map.w);
     if src.len() - at < size {
         if ended {
-            return First::Refused(SHORT_RASTER);
+            return Err(Refusal::ShortRaster);
         }
-        return First::Unended;
+        return Ok(None);
     }
     let end = at + size;
-    let judged = raster::read(false, &src[at..end], w, h, bits);
-    if MOST_MARKERS < judged.rocks {
-        return First::Refused(NO_SLOT);
+    let rocks = raster::read(Format::Raw, &src[at..end], map, bits)?;
+    if MOST_MARKERS < rocks {
+        return Err(Refusal::NoSlot);
     }
-    First::Map(w, h, end)
+    Ok(Some(Piece { map, used: end }))
 }
 
 // Reads what follows the letters.
-fn read_map(src: &[u8], ended: bool, bits: &mut [u8]) -> First
+fn read_map(src: &[u8], ended: bool, bits: &mut [u8]) -> Result<Option<Piece>, Refusal>
     requires { MayReadHeader src.now bits.old }
     ensures { PieceRead src.now ended bits.new result }
 {
     let mut sides = [0usize; 2];
-    let head = header::header(src, 2, &mut sides);
-    let Head::Body(at) = head else {
+    let Some(at) = header::header(src, 2, &mut sides) else {
         return headless(src, ended);
     };
-    let w = sides[0];
-    let h = sides[1];
-    if !sheets::sized(w, h) {
-        return First::Refused(BAD_SIZE);
-    }
-    read_raster(src, ended, at, w, h, bits)
+    let map = sheets::sized(sides[0], sides[1]).ok_or(Refusal::BadSize)?;
+    read_raster(src, ended, at, map, bits)
 }
 
-// Tells the map that these bytes begin with, not more than a map may have.
-fn read_piece(src: &[u8], ended: bool, bits: &mut [u8]) -> First
+// Tells the map that these bytes begin with, not more than a map may have; or that more bytes are
+// needed to tell.
+fn read_piece(src: &[u8], ended: bool, bits: &mut [u8]) -> Result<Option<Piece>, Refusal>
     requires { MayRead src.now bits.old }
     ensures { PieceRead src.now ended bits.new result }
 {
     if header::begins(src, b"P4") {
         return read_map(src, ended, bits);
     }
-    if ended {
-        return First::Refused(BAD_LETTERS);
+    if !ended && letters_cut(src) {
+        return Ok(None);
     }
-    if letters_cut(src) {
-        return First::Unended;
-    }
-    First::Refused(BAD_LETTERS)
+    Err(Refusal::BadLetters)
 }
 
-// More bytes follow than a map may have: what these do not tell is too long.
-fn past(piece: First) -> First
-    ensures { result ≡ past_of piece }
-{
-    match piece {
-        First::Map(w, h, used) => First::Map(w, h, used),
-        First::Refused(n) => First::Refused(n),
-        First::Long => First::Long,
-        First::Unended => First::Long,
-    }
-}
-
-// Tells the map that the bytes at hand begin with; `ended`: the input ends with them. Of more bytes
-// than a map may have only so many are looked at, and the input does not end with these. A map's
-// bits go into lent bytes, in raster order; at another answer these hold nothing of use.
-pub fn next_map(src: &[u8], ended: bool, bits: &mut [u8]) -> First
+// Tells the map that the bytes at hand begin with, or that more bytes are needed to tell; `ended`:
+// the input ends with them. Of more bytes than a map may have only so many are looked at, and the
+// input does not end with these: what they do not tell is too long. A map's bits go into lent
+// bytes, in raster order; at another answer these hold nothing of use.
+pub fn next_map(src: &[u8], ended: bool, bits: &mut [u8]) -> Result<Option<Piece>, Stop>
     requires { side * side ≤ length bits.old }
     ensures { FirstRead src.now ended bits.new result }
 {
     if MOST_BYTES < src.len() {
-        return past(read_piece(&src[..MOST_BYTES], false, bits));
+        return match read_piece(&src[..MOST_BYTES], false, bits)? {
+            Some(piece) => Ok(Some(piece)),
+            None => Err(Stop::Long),
+        };
     }
-    read_piece(src, ended, bits)
+    Ok(read_piece(src, ended, bits)?)
 }

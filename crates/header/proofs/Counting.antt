@@ -11,8 +11,8 @@ use lib.Seq.{take-suc-set, take-length}
 use Rattle.mapfile.specs.HeaderWorking.{value, no_value, next_number, last_blank}
 use Rattle.mapfile.specs.HeadingWorking.{no_heading, heading_of, onto_all, HeadingTold}
 use Rattle.mapfile.proofs.HeadingWorking.{heading_told, onto_more, onto_none, onto_last, heading_more, heading_none, heading_last, heading_no_last}
-use Rattle.header.specs.HeaderParts.{HeadRead}
-use Rattle.header.specs.declared.Head.TheVariants.{Body, Missing}
+use Rattle.std.proofs.Common.{Option as Maybe, Some, None}
+use Rattle.header.specs.HeaderParts.{GapRead, HeadFound, NoHead, HeadRead}
 
 pub record Counting (s : List ℕ) (at n : ℕ) (numbers : List ℕ) (k i : ℕ) : Type 0 where
   pub within : i ≤ length s
@@ -26,14 +26,9 @@ counting_start s at numbers l =
     let whole : length numbers - 0 ≡ length numbers = omega arith in
     record { within = l; few = omega arith; size = refl; same = ap (λ (n : ℕ). heading_of n (drop at s)) (sym whole) }
 
--- The answers, from what the working reads.
-missing : (s : List ℕ) (at : ℕ) (numbers : List ℕ) → heading_of (length numbers) (drop at s) ≡ no_heading → HeadRead s at numbers Missing
-missing s at numbers e =
-    record {
-      within = λ z. absurd (omega arith);
-      header = λ z. absurd (omega arith);
-      none = λ _. subst (HeadingTold (length numbers) (drop at s)) e (heading_told (length numbers) (drop at s));
-    }
+-- The answer where the working reads no header.
+missing : (s : List ℕ) (at n : ℕ) → heading_of n (drop at s) ≡ no_heading → NoHead s at n
+missing s at n e = subst (HeadingTold n (drop at s)) e (heading_told n (drop at s))
 
 module _ {s : List ℕ} {at n : ℕ} {numbers : List ℕ} {k i : ℕ} (c : Counting s at n numbers k i) where
   -- One number more.
@@ -53,9 +48,9 @@ module _ {s : List ℕ} {at n : ℕ} {numbers : List ℕ} {k i : ℕ} (c : Count
       taken = ap (λ (m : ℕ). take m (set numbers k v)) (add-one k) ∙ take-suc-set numbers k v (omega (arith, c.size))
 
   -- No number where one must be.
-  pub counting_stops : k < n → next_number (drop i s) ≡ no_value → HeadRead s at numbers Missing
+  pub counting_stops : k < n → next_number (drop i s) ≡ no_value → NoHead s at n
   counting_stops l q =
-      missing s at numbers (ap (λ (m : ℕ). heading_of m (drop at s)) c.size ∙ c.same ∙ ap (onto_all (take k numbers)) (ap (λ (m : ℕ). heading_of m (drop i s)) left ∙ heading_none (n - (k + 1)) (drop i s) q) ∙ onto_none (take k numbers))
+      missing s at n (c.same ∙ ap (onto_all (take k numbers)) (ap (λ (m : ℕ). heading_of m (drop i s)) left ∙ heading_none (n - (k + 1)) (drop i s) q) ∙ onto_none (take k numbers))
     where
       left : n - k ≡ suc (n - (k + 1))
       left = omega arith
@@ -69,14 +64,17 @@ module _ {s : List ℕ} {at n : ℕ} {numbers : List ℕ} {k i : ℕ} (c : Count
         c.same ∙ ap (λ (m : ℕ). onto_all (take k numbers) (heading_of m (drop i s))) none_left
         ∙ ap (λ (l : List ℕ). onto_all l (heading_of 0 (drop i s))) (ap (λ (m : ℕ). take m numbers) full ∙ take-length numbers)
 
-    pub counting_ends : (e : ℕ) → e ≤ length s → last_blank (drop i s) ≡ some (drop e s) → HeadRead s at numbers (Body e)
-    counting_ends e b q =
+    ends : (e : ℕ) → e ≤ length s → last_blank (drop i s) ≡ some (drop e s) → HeadFound s at numbers e
+    ends e b q =
         record {
-          within = λ _. b;
-          header = λ _. (subst (HeadingTold n (drop at s)) (whole ∙ ap (onto_all numbers) (heading_last (drop i s) (drop e s) q) ∙ onto_last numbers (drop e s)) (heading_told n (drop at s))).1;
-          none = λ z. absurd (omega arith);
+          within = b;
+          header = (subst (HeadingTold n (drop at s)) (whole ∙ ap (onto_all numbers) (heading_last (drop i s) (drop e s) q) ∙ onto_last numbers (drop e s)) (heading_told n (drop at s))).1;
         }
 
-    pub counting_unended : last_blank (drop i s) ≡ none → HeadRead s at numbers Missing
-    counting_unended q =
-        missing s at numbers (ap (λ (m : ℕ). heading_of m (drop at s)) c.size ∙ whole ∙ ap (onto_all numbers) (heading_no_last (drop i s) q) ∙ onto_none numbers)
+    unended : last_blank (drop i s) ≡ none → NoHead s at (length numbers)
+    unended q =
+        missing s at (length numbers) (ap (λ (m : ℕ). heading_of m (drop at s)) c.size ∙ whole ∙ ap (onto_all numbers) (heading_no_last (drop i s) q) ∙ onto_none numbers)
+
+    pub counting_ends : (r : Maybe ℕ) → GapRead s (last_blank (drop i s)) r → HeadRead s at numbers r
+    counting_ends (Some e) g = ends e g.0 g.1
+    counting_ends None g = unended g

@@ -11,6 +11,7 @@ use Rattle.mapfile.specs.Header.{Digit, most_digits}
 use Rattle.mapfile.specs.HeaderWorking.{no_value, end_number, number_from, number_none, number_digit, number_many, number_stop}
 use Rattle.header.specs.HeaderParts.{NumeralRead, numeral_end}
 use Rattle.header.specs.declared.Numeral.{Numeral}
+use Rattle.std.proofs.Common.{Option as Maybe}
 use Rattle.header.specs.Left.{left_cons}
 
 pub record Numbering (s : List ℕ) (at v i : ℕ) : Type 0 where
@@ -19,17 +20,6 @@ pub record Numbering (s : List ℕ) (at v i : ℕ) : Type 0 where
   pub few : i - at ≤ most_digits
   pub small : v < 10 ^ (i - at)
   pub same : number_from (drop at s) 0 0 ≡ number_from (drop i s) (i - at) v
-
-pub numbering_start : (s : List ℕ) (at : ℕ) → at ≤ length s → Numbering s at 0 at
-numbering_start s at l =
-    let none : at - at ≡ 0 = omega arith in
-    record {
-      from = omega arith;
-      within = l;
-      few = omega arith;
-      small = rw none (omega arith);
-      same = ap (λ (n : ℕ). number_from (drop at s) n 0) (sym none);
-    }
 
 -- The value of the digits, with as many as there may be, is small.
 pub value_small : {s : List ℕ} {at v i : ℕ} → Numbering s at v i → v < 1000000000
@@ -59,21 +49,23 @@ module _ {s : List ℕ} {at v i : ℕ} (k : Numbering s at v i) where
   numbering_many l d m =
       k.same ∙ ap (λ (t : List ℕ). number_from t (i - at) v) (left_cons s i l) ∙ number_many (drop (i + 1) s) (i - at) v d (omega arith)
 
-  end_read : (n : ℕ) → number_from (drop at s) 0 0 ≡ end_number n v (drop i s) → (r : Numeral) → r ≡ numeral_end n v i
+  end_read : (n : ℕ) → number_from (drop at s) 0 0 ≡ end_number n v (drop i s) → (r : Maybe Numeral) → r ≡ numeral_end n v i
       → NumeralRead s (number_from (drop at s) 0 0) r
   unfolding end_number
   end_read zero e r q = rw q e
   end_read (suc n) e r q = rw q (k.within, e)
 
-  pub numbering_stop : (r : Numeral) → i < length s → ¬ Digit (get_or s i 0) → r ≡ numeral_end (i - at) v i
+  pub numbering_stop : (r : Maybe Numeral) → i < length s → ¬ Digit (get_or s i 0) → r ≡ numeral_end (i - at) v i
       → NumeralRead s (number_from (drop at s) 0 0) r
   numbering_stop r l d q =
       end_read (i - at)
       (k.same ∙ ap (λ (t : List ℕ). number_from t (i - at) v) (left_cons s i l) ∙ number_stop (drop (i + 1) s) (i - at) v d
       ∙ ap (end_number (i - at) v) (sym (left_cons s i l))) r q
 
-  pub numbering_end : (r : Numeral) → length s ≤ i → r ≡ numeral_end (i - at) v i → NumeralRead s (number_from (drop at s) 0 0) r
-  numbering_end r l q =
+  pub numbering_end : (r : Maybe Numeral) → length s ≤ i → r ≡ numeral_end (length s - at) v (length s) → NumeralRead s (number_from (drop at s) 0 0) r
+  numbering_end r l p =
+      let e : length s ≡ i = omega (arith, k.within) in
+      let q : r ≡ numeral_end (i - at) v i = p ∙ ap (λ (n : ℕ). numeral_end (n - at) v n) e in
       end_read (i - at)
       (k.same ∙ ap (λ (t : List ℕ). number_from t (i - at) v) (drop_of_length-le s l) ∙ number_none (i - at) v
       ∙ ap (end_number (i - at) v) (sym (drop_of_length-le s l))) r q

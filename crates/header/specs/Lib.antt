@@ -2,5 +2,4 @@
 pub mod HeaderParts
 pub mod Found
 pub mod Letters
-pub mod Answers
 pub mod Left

@@ -8,7 +8,6 @@ use Rattle.field.specs.Distances.{Assured}
 use Rattle.field.specs.Hops.{Permitted, There, HopAnswer, there, one, two, Answers, at_home, just, both}
 use Rattle.field.specs.Workings.Sheet.{Marked, Draws}
 use Rattle.field.proofs.Workings.HopLaws.{ByRow, ByColumn, permitted_which, permitted_other, permitted_away}
-use Rattle.sheets.specs.Promise.{Fits}
 use Rattle.distances.specs.Drawn.{assured_drawn}
 use Rattle.hops.specs.Promise.{MayHop}
 
@@ -93,10 +92,9 @@ module _ {w h : ℕ} {C : ℕ → ℕ → Type 0} {s : List ℕ} (D : Draws w h 
   told_none t u a b n = permitted_away ((told_permitted t a b).1 n) u
 
   -- Where no open crossing has two closed neighbours and home is assured, a hop may be asked.
-  pub may_hop : {hx hy x y : ℕ} → Fits w h s → Stable w h C → Assured w h C hx hy x y → MayHop w h s hx hy x y
-  may_hop f st a =
+  pub may_hop : {hx hy x y : ℕ} → Stable w h C → Assured w h C hx hy x y → MayHop w h s hx hy x y
+  may_hop st a =
       record {
-        fits = f;
         stable = λ x y a b c d o n k t p q. D.complete x y (st x y a b c d o n k t (D.sound a b p) (D.sound c d q));
         assured = (assured_drawn D).1 a;
       }

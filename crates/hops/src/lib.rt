@@ -4,58 +4,71 @@
 ghost use Rattle.std.specs.Prelude.{◌≡◌};
 ghost use Rattle.field.specs.Hops.{Answers};
 ghost use Rattle.field.specs.Workings.Sheet.{Marked};
-ghost use Rattle.field.specs.Workings.Looking.{east_west_of, north_south_of};
+ghost use Rattle.distances.specs.Promise.{AskedHome};
 ghost use Rattle.hops.specs.Promise.{answered, MayHop};
-ghost use Rattle.hops.specs.Asking.{AskedRow, AskedColumn};
+ghost use Rattle.hops.specs.Leading.{along, Moved, Leads};
 
-use sheets::mark;
+use field::{Hops, Place};
+use sheets::Sheet;
 
-// The answer names every permitted hop, the east-west one first; at home it is There.
-#[derive(Clone, Copy)]
-pub enum Answer {
-    There,
-    One(usize, usize),
-    Two(usize, usize, usize, usize),
+// The two axes that a hop may lead along.
+#[derive(Clone, Copy, Debug, PartialEq, Eq)]
+enum Axis {
+    Row,
+    Column,
 }
 
-// Whether the hop along the row is permitted: home is in another column, and the hop's end is open.
-fn east_west(s: &[u8], w: usize, h: usize, hx: usize, x: usize, y: usize) -> bool
-    requires { AskedRow w h s.now hx x y }
-    ensures { result ≡ east_west_of s.now w h hx x y }
-{
-    if x == hx {
-        return false;
-    }
-    mark(s, w, h, sheets::hop(x, hx), y) == 0
-}
-
-// Whether the hop along the column is permitted: home is in another row, and the hop's end is open.
-fn north_south(s: &[u8], w: usize, h: usize, hy: usize, x: usize, y: usize) -> bool
-    requires { AskedColumn w h s.now hy x y }
-    ensures { result ≡ north_south_of s.now w h hy x y }
-{
-    if y == hy {
-        return false;
-    }
-    mark(s, w, h, x, sheets::hop(y, hy)) == 0
-}
-
-// The permitted hops from (x, y) towards home (hx, hy), for which home is assured.
-pub fn hop(s: &[u8], w: usize, h: usize, hx: usize, hy: usize, x: usize, y: usize) -> Answer
-    requires { MayHop w h s.now hx hy x y }
-    ensures { Answers w h (Marked s.now w h) hx hy x y (answered result) }
-{
-    let row = east_west(s, w, h, hx, x, y);
-    let column = north_south(s, w, h, hy, x, y);
-    if row {
-        let a = sheets::hop(x, hx);
-        if column {
-            return Answer::Two(a, y, x, sheets::hop(y, hy));
+impl Axis {
+    // Where on the axis a place is.
+    fn of(self, p: Place) -> usize
+        ensures { result ≡ along self p.x p.y }
+    {
+        match self {
+            Axis::Row => p.x,
+            Axis::Column => p.y,
         }
-        return Answer::One(a, y);
     }
-    if column {
-        return Answer::One(x, sheets::hop(y, hy));
+
+    // The place at a on this axis through p.
+    fn moved(self, p: Place, a: usize) -> Place
+        ensures { Moved self a p.x p.y result }
+    {
+        match self {
+            Axis::Row => Place { x: a, y: p.y },
+            Axis::Column => Place { x: p.x, y: a },
+        }
     }
-    Answer::There
+}
+
+// The crossing to which the hop along an axis leads, where it is permitted: home is elsewhere on the
+// axis, and the hop's end is open.
+fn permitted(s: Sheet<'_>, home: Place, p: Place, axis: Axis) -> Option<Place>
+    requires { AskedHome s.map.w s.map.h home.x home.y p.x p.y }
+    ensures { Leads axis s.entry.cells.now s.entry.map.w s.entry.map.h home.x home.y p.x p.y result }
+{
+    let from = axis.of(p);
+    let to = axis.of(home);
+    if from == to {
+        return None;
+    }
+    let end = axis.moved(p, sheets::hop(from, to));
+    if s.at(end) != 0 {
+        return None;
+    }
+    Some(end)
+}
+
+// The permitted hops from p towards home, which is assured for it.
+pub fn hop(s: Sheet<'_>, home: Place, p: Place) -> Hops
+    requires { MayHop s.map.w s.map.h s.cells.now home.x home.y p.x p.y }
+    ensures { Answers s.entry.map.w s.entry.map.h (Marked s.entry.cells.now s.entry.map.w s.entry.map.h) home.x home.y p.x p.y (answered result) }
+{
+    let row = permitted(s, home, p, Axis::Row);
+    let column = permitted(s, home, p, Axis::Column);
+    match (row, column) {
+        (Some(a), Some(b)) => Hops::Two(a, b),
+        (Some(a), None) => Hops::One(a),
+        (None, Some(b)) => Hops::One(b),
+        (None, None) => Hops::There,
+    }
 }

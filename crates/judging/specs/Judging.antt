@@ -3,9 +3,7 @@
 use Rattle.std.specs.Prelude.{◌≡◌, Bool, true, false, List, [], ◌∷◌, ◌⊎◌, ℕ, ◌+◌, ◌*◌, ◌<◌}
 use Rattle.field.specs.Map.{Sides, On, most_markers}
 use Rattle.field.specs.Refusals.{bad_size, bad_sheet, bad_list, bad_place, id_in_use, id_not_in_use, no_slot}
-use Rattle.calls.specs.Rule.{Rule, Gives, rule}
-use Rattle.judging.specs.declared.Sought.{Sought}
-use Rattle.judging.specs.declared.Sought.TheVariants.{BadSize, BadList, InUse, NotInUse}
+use Rattle.calls.specs.Rule.{Rule, rule}
 
 -- A sheet of n bytes is of the map's size.
 pub record OneFit (w h n : ℕ) : Type 0 where
@@ -30,11 +28,6 @@ asking_judged w h n others well x y a b =
     ∷ rule bad_place ((¬ On w h x y) ⊎ (¬ On w h a b))
     ∷ []
 
--- What is found of an id at the marker that stands in its place.
-pub record FoundAt (here id : ℕ) (found : Sought) : Type 0 where
-  pub met : here ≡ id → found ≡ InUse
-  pub other : ¬ (here ≡ id) → found ≡ NotInUse
-
 -- The rows of a new marker on a good map and list: `used` tells whether its id is in use, and
 -- `lent` is the list's length.
 abbrev pub new_judged : Bool → ℕ → ℕ → ℕ → ℕ → ℕ → ℕ → ℕ → List Rule
@@ -44,16 +37,6 @@ new_judged used w h id x y count lent =
     ∷ rule no_slot ((lent < count + 1) ⊎ (most_markers < count + 1))
     ∷ []
 
--- The number of entering, by what was found of the map, the list and the id.
-abbrev pub EnterJudged : Sought → ℕ → ℕ → ℕ → ℕ → ℕ → ℕ → ℕ → ℕ → Type 0
-EnterJudged BadSize w h id x y count lent r = r ≡ bad_size
-EnterJudged BadList w h id x y count lent r = r ≡ bad_list
-EnterJudged InUse w h id x y count lent r = Gives (new_judged true w h id x y count lent) r
-EnterJudged NotInUse w h id x y count lent r = Gives (new_judged false w h id x y count lent) r
-
--- The number of clearing, likewise.
-abbrev pub clear_number : Sought → ℕ
-clear_number BadSize = bad_size
-clear_number BadList = bad_list
-clear_number InUse = 0
-clear_number NotInUse = id_not_in_use
+-- The rows of clearing on a good map and list: `used` tells whether the id is in use.
+abbrev pub clear_judged : Bool → List Rule
+clear_judged used = rule id_not_in_use (used ≡ false) ∷ []

@@ -2,14 +2,12 @@
 // the file is refused.
 #![tactic(auto)]
 
-ghost use Rattle.std.specs.Prelude.{◌≤◌};
-ghost use Rattle.chart.specs.Promise.{room};
-
 use chart::ROOM;
+use mapfile::MOST_BYTES;
 
 // "A program takes at most 65,536 input bytes": so many and one more, so that a longer input is
 // told from the longest.
-const INPUT: usize = 65537;
+const INPUT: usize = MOST_BYTES + 1;
 
 // The descriptors that every program is started with.
 const STDIN: i32 = 0;
@@ -18,13 +16,10 @@ const STDOUT: i32 = 1;
 
 const STDERR: i32 = 2;
 
-// Prints the text that stands at the front of the output. A program has no exit status to tell a
-// closed output by, so it says it on standard error.
-fn print(out: &[u8; ROOM], end: usize)
-    requires { end ≤ room }
-{
-    let whole: &[u8] = out;
-    if !io::write_all(STDOUT, &whole[..end]) {
+// Prints the text. A program has no exit status to tell a closed output by, so it says it on
+// standard error.
+fn print(text: &[u8]) {
+    if !io::write_all(STDOUT, text) {
         io::write_all(STDERR, b"label: the text could not be written\n");
     }
 }
@@ -34,5 +29,5 @@ fn main() {
     let n = io::read_full(STDIN, &mut src);
     let mut out = [0u8; ROOM];
     let end = chart::chart(&src[..n], &mut out);
-    print(&out, end);
+    print(&out[..end]);
 }

@@ -1,14 +1,23 @@
 -- The three numbers, by counting bits: rock has the rocks' bits, c those of the closed crossings.
-use Rattle.std.specs.Prelude.{◌≡◌, List, ℕ, ◌+◌, ◌*◌, ◌<◌, ◌≤◌, length, get_or}
+use Rattle.std.specs.Prelude.{◌≡◌, List, ℕ, ◌+◌, ◌*◌, ◌^◌, ◌<◌, ◌≤◌, get_or}
 use Rattle.std.specs.Int.Count.{ones}
-use Rattle.field.specs.Map.{Sides}
-use Rattle.field.specs.Limits.{side_number}
 use Rattle.field.specs.Labels.{sum_to}
 use Rattle.bits.specs.Laws.{without}
 use Rattle.bits.specs.Carries.{west_word}
-use Rattle.rows.specs.Layout.{words, stride, words_of, spot, spot_south, spot_west}
-use Rattle.rows.specs.Rows.{word_at, Long}
-use Rattle.labels.specs.declared.Labelled.{Labelled}
+use Rattle.rows.specs.Layout.{words_of, spot, spot_south, spot_west}
+use Rattle.rows.specs.Rows.{word_at}
+use Rattle.field.specs.declared.Labelled.{Labelled}
+
+-- Three numbers and three: each sum fits, and is its number.
+pub record Summing (a b : Labelled) : Type 0 where
+  pub rocks : a.rocks + b.rocks < 2 ^ 64
+  pub shut : a.shut + b.shut < 2 ^ 64
+  pub groups : a.groups + b.groups < 2 ^ 64
+
+pub record Summed (a b r : Labelled) : Type 0 where
+  pub rocks : r.rocks ≡ a.rocks + b.rocks
+  pub shut : r.shut ≡ a.shut + b.shut
+  pub groups : r.groups ≡ a.groups + b.groups
 
 -- The bits of word j of row y that are closed without a rock; and those closed with neither a
 -- closed west nor a closed south neighbour.
@@ -47,22 +56,3 @@ pub record Counted (w h : ℕ) (rock c : List ℕ) (r : Labelled) : Type 0 where
   pub rocks : r.rocks ≡ sum_to h (λ y. sum_to (words_of w) (λ j. ones (word_at rock y j)))
   pub shut : r.shut ≡ sum_to h (λ y. sum_to (words_of w) (λ j. ones (shut_at rock c y j)))
   pub groups : r.groups ≡ sum_to h (λ y. sum_to (words_of w) (λ j. ones (corners_at c y j)))
-
--- What is asked of the words of a map, of a row and those beside it, and of a word.
-pub record Counting (w h : ℕ) (rock c : List ℕ) : Type 0 where
-  pub sides : Sides w h
-  pub long_rock : Long h rock
-  pub long_c : Long h c
-
-pub record CountingRow (w y : ℕ) (rock c : List ℕ) : Type 0 where
-  pub some_w : 1 ≤ w
-  pub most_w : w ≤ 64 * words
-  pub most_y : y < side_number
-  pub long_rock : (y + 3) * stride ≤ length rock
-  pub long_c : (y + 3) * stride ≤ length c
-
-pub record CountingWord (y j : ℕ) (rock c : List ℕ) : Type 0 where
-  pub most_j : j < words
-  pub most_y : y < side_number
-  pub long_rock : (y + 3) * stride ≤ length rock
-  pub long_c : (y + 3) * stride ≤ length c

@@ -1,14 +1,6 @@
--- The working memory of a labelling: words for as many rows as there may be, and fewer where there
--- are few.
+-- The working memory of a labelling.
 use Rattle.std.specs.Prelude.{◌≡◌, List, ℕ}
 use Rattle.rows.specs.Sheets.{Stamped, Drawn}
-
--- Few rows, and some.
-abbrev pub few : ℕ
-few = 16
-
-abbrev pub some : ℕ
-some = 64
 
 -- The rocks of a stamped sheet are read into rock, and c has them too.
 pub record Ready (w h : ℕ) (s rock c : List ℕ) : Type 0 where

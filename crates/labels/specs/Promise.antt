@@ -4,7 +4,7 @@ use Rattle.std.specs.Prelude.{List, ℕ}
 use Rattle.field.specs.Labels.{Closed, Shut, RockOn, LabelSheet, Count}
 use Rattle.field.specs.Groups.{Groups}
 pub use Rattle.rows.specs.Sheets.{Stamped, Stones}
-use Rattle.labels.specs.declared.Labelled.{Labelled}
+use Rattle.field.specs.declared.Labelled.{Labelled}
 
 -- "Labelling hands back the numbers of rocks' crossings, shut crossings and groups": s is the sheet
 -- stamped, t the one handed back.

@@ -1,9 +1,11 @@
--- Laws that the proofs of the code cite.
+-- Laws that the proofs of the code cite: the way from what the parts promise to the calls' promises.
 mod Tables
-mod Seeking
-mod Listing
 mod Joining
-mod Writing
 mod LabelAnswers
 mod DriveAnswers
 mod Mornings
+mod Listing
+mod Sharing
+mod Writing
+mod Putting
+mod Reading

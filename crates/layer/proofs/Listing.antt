@@ -1,78 +1,108 @@
--- What the rows of entering and clearing leave where none applies, and what the calls promise of
--- the list.
-use mathlib.Core.Path.{◌≡◌, refl, subst}
-use mathlib.Core.List.{List}
-use mathlib.Core.Logic.{inl}
-use Prim.Native.Nat.{ℕ, ◌<◌, ◌^◌}
-use native.Mathlib.Omega.{arith}
-use native.Mathlib.Decide.{dec_lt}
-use lib.Dec.{lit<}
-use lib.ListN.{length}
+-- Entering and clearing: what is found of the map, the list and the id tells which rows apply, and
+-- what is left where none does.
+use Rattle.std.proofs.Common.{refl, Bool, List, [], ◌∷◌, inl, inr, ℕ, ◌<◌, ◌^◌, length, arith}
+use Rattle.std.proofs.Math.Decide.{dec_lt}
+use Rattle.std.specs.Prelude.{Result, Ok, Err}
+use Rattle.std.proofs.lemmas.Result.{err_from_is_err_and}
 use Rattle.field.specs.declared.Marker.{Marker}
-use Rattle.markers.specs.List.{InUse}
-use Rattle.markers.specs.Promise.{marker}
-use Rattle.records.specs.Promise.{MayEnter, Enters, MayClear, Clears}
+use Rattle.field.specs.declared.refusals.Refusal.{Refusal}
+use Rattle.field.specs.Refusals.{number_of}
+use Rattle.field.specs.Limits.{side_is}
+use Rattle.markers.specs.Promise.{Rising, marker, Enters, Clears}
+use Rattle.records.specs.Promise.{MayEnter, MayClear}
 use Rattle.calls.specs.Rules
 use Rattle.calls.specs.Rules.{LentMap, OnIt, Gives}
-use Rattle.calls.specs.RuleLaws.{None, gives_none, holds, sides_hold, on_holds, formed_holds}
+use Rattle.calls.specs.RuleLaws.{None, gives_none, gives_reworded, same, holds, on_holds}
 use Rattle.calls.specs.Calls.{EnterCall, ClearCall}
-use Rattle.calls.specs.declared.Counted.{Counted}
-use Rattle.field.specs.Limits.{side_is}
-use Rattle.layer.proofs.Seeking.{rising_of}
+use Rattle.calls.specs.Told.{counted}
+use Rattle.judging.specs.Judging.{new_judged, clear_judged}
+use Rattle.layer.specs.Prepared.{Seeks}
+use Rattle.layer.proofs.Tables.{not_no, no_means}
+use Rattle.layer.proofs.Joining.{Handed, some_number}
 
--- An answer: the refusal, and the new count.
-abbrev pub counted : ℕ → ℕ → Counted
-counted n count = record { refusal = n; count = count }
+module _ (m : LentMap) {id : ℕ} where
+  -- Refused before the id is looked for.
+  pub enter_early : {x y height : ℕ} {e : Refusal} (r : Result ℕ Refusal) → Seeks m id (Err e) → Handed e r → EnterCall m id x y height m.list (counted r)
+  enter_early {x} {y} {e = e} r s f =
+      let q = err_from_is_err_and r f.1 in
+      rw (q.1, q.2) (record { given = go s; kept = λ _. refl; refused = λ _. refl; done = λ z. absurd (some_number e z) })
+    where
+      go : Seeks m id (Err e) → Gives (Rules.enter_table m id x y) (number_of e)
+      go (inl k) = rw k.1 (inl (k.0, refl))
+      go (inr k) = rw k.2 (inr (λ f. f k.0, inl (k.1, refl)))
 
-module _ (m : LentMap) (id x y height n : ℕ) (g : Gives (Rules.enter_table m id x y) n) where
-  pub enter_refused : ¬ (n ≡ 0) → EnterCall m id x y height m.list (counted n 0)
-  enter_refused f = record { given = g; kept = λ _. refl; refused = λ _. refl; done = λ z. absurd (f z) }
+  pub clear_early : {e : Refusal} (r : Result ℕ Refusal) → Seeks m id (Err e) → Handed e r → ClearCall m id m.list (counted r)
+  clear_early {e} r s f =
+      let q = err_from_is_err_and r f.1 in
+      rw (q.1, q.2) (record { given = go s; kept = λ _. refl; refused = λ _. refl; done = λ z. absurd (some_number e z) })
+    where
+      go : Seeks m id (Err e) → Gives (Rules.clear_table m id) (number_of e)
+      go (inl k) = rw k.1 (inl (k.0, refl))
+      go (inr k) = rw k.2 (inr (λ f. f k.0, inl (k.1, refl)))
 
-  module _ (z : n ≡ 0) where
-    free : None (Rules.enter_table m id x y)
-    free = gives_none (Rules.enter_table m id x y) 0 n (lit< tt, (lit< tt, (lit< tt, (lit< tt, (lit< tt, tt))))) g z
+  module _ {used : Bool} (found : Seeks m id (Ok used)) where
+    -- So the list's ids rise.
+    rising : Rising m.list m.count
+    rising = record { lent = found.1.lent; rising = found.1.rising }
 
-    on : OnIt m x y
-    on = on_holds (λ f. free.1.1.0 (inl f))
+    enter_gives : {x y n : ℕ} → Gives (new_judged used m.width m.height id x y m.count (length m.list)) n → Gives (Rules.enter_table m id x y) n
+    enter_gives {x} {y} {n} g =
+        inr (
+          λ f. f found.0,
+          inr (
+            λ f. f found.1,
+            gives_reworded (new_judged used m.width m.height id x y m.count (length m.list)) (Rules.new_rule m id x y ∷ Rules.in_use_rule m id ∷ Rules.slot_rule m ∷ []) n
+                (refl, same, λ _. (refl, found.2, λ _. (refl, same, λ _. tt))) g,
+          ),
+        )
 
-    -- The new marker's crossing is on the map, so it fits a record.
-    pub enter_fits : (x < 2 ^ 16) × (y < 2 ^ 16)
-    enter_fits =
-        (omega (arith, on.in_x, (sides_hold free.0).most_w, side_is), omega (arith, on.in_y, (sides_hold free.0).most_h, side_is))
+    clear_gives : {n : ℕ} → Gives (clear_judged used) n → Gives (Rules.clear_table m id) n
+    clear_gives {n} g =
+        inr (
+          λ f. f found.0,
+          inr (
+            λ f. f found.1,
+            gives_reworded (clear_judged used) (Rules.not_in_use_rule m id ∷ []) n (refl, no_means used found.2, λ _. tt) g,
+          ),
+        )
 
-    pub enter_may : MayEnter m.list m.count (marker id x y height)
-    enter_may =
-        record {
-          rising = rising_of (formed_holds free.1.0);
-          new = free.1.1.1.0;
-          room = holds (dec_lt m.count (length m.list)) (λ f. free.1.1.1.1.0 (inl (omega arith)));
-        }
+    pub enter_refused : {x y height : ℕ} (e : Refusal) (r : Result ℕ Refusal) → Gives (new_judged used m.width m.height id x y m.count (length m.list)) (number_of e) → Handed e r
+        → EnterCall m id x y height m.list (counted r)
+    enter_refused e r g f =
+        let q = err_from_is_err_and r f.1 in
+        rw (q.1, q.2) (record { given = enter_gives g; kept = λ _. refl; refused = λ _. refl; done = λ z. absurd (some_number e z) })
 
-    pub enter_done : {after : List Marker} {r : ℕ} → Enters m.list m.count (marker id x y height) after r → EnterCall m id x y height after (counted 0 r)
-    enter_done e =
-        record {
-          given = subst (Gives (Rules.enter_table m id x y)) z g;
-          kept = λ f. absurd (f refl);
-          refused = λ f. absurd (f refl);
-          done = λ _. e;
-        }
+    pub clear_refused : (e : Refusal) (r : Result ℕ Refusal) → Gives (clear_judged used) (number_of e) → Handed e r → ClearCall m id m.list (counted r)
+    clear_refused e r g f =
+        let q = err_from_is_err_and r f.1 in
+        rw (q.1, q.2) (record { given = clear_gives g; kept = λ _. refl; refused = λ _. refl; done = λ z. absurd (some_number e z) })
 
-module _ (m : LentMap) (id n : ℕ) (g : Gives (Rules.clear_table m id) n) where
-  pub clear_refused : ¬ (n ≡ 0) → ClearCall m id m.list (counted n 0)
-  clear_refused f = record { given = g; kept = λ _. refl; refused = λ _. refl; done = λ z. absurd (f z) }
+    module _ {x y : ℕ} (g : Gives (new_judged used m.width m.height id x y m.count (length m.list)) 0) where
+      free : None (Rules.enter_table m id x y)
+      free = gives_none (Rules.enter_table m id x y) 0 0 (omega arith) (enter_gives g) refl
 
-  module _ (z : n ≡ 0) where
-    clear_free : None (Rules.clear_table m id)
-    clear_free = gives_none (Rules.clear_table m id) 0 n (lit< tt, (lit< tt, (lit< tt, tt))) g z
+      on : OnIt m x y
+      on = on_holds (λ f. free.1.1.0 (inl f))
 
-    pub clear_may : InUse m.list m.count id → MayClear m.list m.count id
-    clear_may u = record { rising = rising_of (formed_holds clear_free.1.0); used = u }
+      -- The new marker's crossing is on the map, so it fits a record.
+      pub enter_fits : (x < 2 ^ 16) × (y < 2 ^ 16)
+      enter_fits = (omega (arith, on.in_x, found.0.most_w, side_is), omega (arith, on.in_y, found.0.most_h, side_is))
 
-    pub clear_done : {after : List Marker} {r : ℕ} → Clears m.list m.count id after r → ClearCall m id after (counted 0 r)
-    clear_done e =
-        record {
-          given = subst (Gives (Rules.clear_table m id)) z g;
-          kept = λ f. absurd (f refl);
-          refused = λ f. absurd (f refl);
-          done = λ _. e;
-        }
+      pub enter_may : {height : ℕ} → MayEnter m.list m.count (marker id x y height)
+      enter_may =
+          record {
+            rising = rising;
+            new = free.1.1.1.0;
+            room = holds (dec_lt m.count (length m.list)) (λ f. free.1.1.1.1.0 (inl (omega arith)));
+          }
+
+      pub enter_done : {height n : ℕ} {after : List Marker} → Enters m.list m.count (marker id x y height) after n → EnterCall m id x y height after (counted (Ok n))
+      enter_done e = record { given = enter_gives g; kept = λ f. absurd (f refl); refused = λ f. absurd (f refl); done = λ _. e }
+
+    module _ (g : Gives (clear_judged used) 0) where
+      pub clear_may : MayClear m.list m.count id
+      clear_may =
+          record { rising = rising; used = found.2.0 (not_no used (gives_none (clear_judged used) 0 0 (omega arith) g refl).0) }
+
+      pub clear_done : {n : ℕ} {after : List Marker} → Clears m.list m.count id after n → ClearCall m id after (counted (Ok n))
+      clear_done e = record { given = clear_gives g; kept = λ f. absurd (f refl); refused = λ f. absurd (f refl); done = λ _. e }

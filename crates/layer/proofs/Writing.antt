@@ -1,83 +1,135 @@
--- What is written: where no two markers share a crossing, the file over the sheet's marks is the file
--- over the cart's rocks, and the rows of all parts are the table's.
-use Rattle.std.specs.Prelude.{◌≡◌, true, false, List, [], ◌∷◌, ◌↔◌, ℕ, length}
-use Rattle.std.proofs.Common.{◌∙◌, inl, inr, arith}
+-- From the parts of writing to the call's promise. The first part's refusals are rows 1 and 3 of
+-- the table: the sheet is of the map's size and no place is asked. The second part's is row 16: all
+-- markers are stamped, and the marks are as many exactly where no two share one. The third part's
+-- is row 17: the rocks are stamped over them, and the sheet's marks are these.
+use Rattle.std.proofs.Common.{◌≡◌, refl, Bool, true, false, true≢false, List, [], ◌∷◌, ◌↔◌, inl, inr, ℕ, ◌+◌, ◌-◌, ◌<◌, length, arith}
+use Rattle.std.specs.Prelude.{Result, Ok, Err}
+use Rattle.std.proofs.lemmas.Result.{err_from_is_err_and}
+use Rattle.field.specs.declared.Size.{Size}
+use Rattle.field.specs.declared.refusals.Refusal.{Refusal}
+use Rattle.field.specs.declared.refusals.Refusal.TheVariants.{SharedCrossing}
+use Rattle.field.specs.Map.{On}
+use Rattle.field.specs.Refusals.{success, number_of, told}
+use Rattle.field.specs.Workings.MarkCount.{marks}
 use Rattle.field.specs.Workings.Sheet.{Marked}
 use Rattle.mapfile.specs.Written.{Written}
-use Rattle.sheets.specs.Promise.{Fits}
+use Rattle.records.specs.Promise.{MayStamp, StampedWith}
 use Rattle.calls.specs.Rules
-use Rattle.calls.specs.Rules.{LentMap, Sized, OnIt, Formed, RocksOf, Gives, Shared, TooShort}
-use Rattle.calls.specs.Parts.{before}
-use Rattle.layer.specs.Prepared.{Prepared}
-use Rattle.exchange.specs.Promise.{Area, shared_rows, MayWrite, WriteRest}
+use Rattle.calls.specs.Rules.{LentMap, Sized, OnIt, Formed, RocksOf, Gives, TooShort}
+use Rattle.calls.specs.RuleLaws.{None, gives_none, sides_hold, formed_holds}
 use Rattle.calls.specs.Calls.{WriteCall}
-use Rattle.calls.specs.declared.WroteMap.{WroteMap}
-use Rattle.layer.specs.Writing.{written_moved, Second, good, second}
-use Rattle.layer.specs.Writing.Second.{no_size, no_list, two_share, passed}
+use Rattle.calls.specs.Told.{wrote_map}
+use Rattle.exchange.specs.Promise.{Area, WriteRest}
+use Rattle.layer.specs.Prepared.{asking_found, Prepared}
+use Rattle.layer.proofs.Joining.{Handed, some_number}
+use Rattle.layer.proofs.Sharing.{marks_apart, marks_shared}
 
--- All markers are stamped first, and n₁ is given; by their marks n₂ is; and then the rocks are
--- stamped over them, whatever number is given with that.
-module _ {m : LentMap} {n₁ n₂ n₃ : ℕ} {sheet marked stamped : List ℕ} (area : Area m.width m.height (length sheet))
-    (again : Area m.width m.height (length marked)) (p : Prepared m true 0 0 0 0 true sheet marked n₁)
-    (g : Gives (shared_rows n₁ m.count marked) n₂) (q : Prepared m false 0 0 0 0 true marked stamped n₃) where
-  -- Where nothing is refused, the third part may write.
-  pub may_write : MayWrite n₂ m.width m.height stamped
-  may_write z = go (second area again p g q)
+-- What is written depends only on which crossings of the map are rocks.
+pub written_moved : {w h : ℕ} {R S : ℕ → ℕ → Type 0} {file : List ℕ} → ((x y : ℕ) → On w h x y → (R x y ↔ S x y)) → Written w h R file → Written w h S file
+written_moved {w} {h} same p =
+    record {
+      width = p.width;
+      height = p.height;
+      rows = p.rows;
+      width_is = p.width_is;
+      height_is = p.height_is;
+      rows_are = record {
+        size = p.rows_are.size;
+        bytes = p.rows_are.bytes;
+        rock = λ r x a b s. p.rows_are.rock r x a b ((same x (h - (r + 1)) (here r x a b)).1 s);
+        free = λ r x a b n. p.rows_are.free r x a b (λ s. n ((same x (h - (r + 1)) (here r x a b)).0 s));
+        pad = p.rows_are.pad;
+      };
+      is = p.is;
+    }
+  where
+    here : (r x : ℕ) → r < h → x < w → On w h x (h - (r + 1))
+    here r x a b = record { in_x = b; in_y = omega arith }
+
+-- On a good map with a good list nothing is refused.
+pub good : {m : LentMap} {low : Bool} {sheet sheet' : List ℕ} {r : Result Size Refusal} → Area m.width m.height (length sheet) → Prepared m low 0 0 0 0 true sheet sheet' r → Sized m → Formed m → told r ≡ success
+good {m = m} {sheet = sheet} {r = r} area p s f = go p.given
+  where
+    origin : OnIt m 0 0
+    origin = record { in_x = s.some_w; in_y = s.some_h }
+
+    go : Gives (asking_found m 0 0 0 0 true sheet) (told r) → told r ≡ success
+    go (inl k) = absurd (k.0 s)
+    go (inr (_, inl (inl n, _))) = absurd (n (area.is s))
+    go (inr (_, inl (inr n, _))) = absurd (true≢false n)
+    go (inr (_, inr (_, inl k))) = absurd (k.0 f)
+    go (inr (_, inr (_, inr (_, inl (inl o, _))))) = absurd (o origin)
+    go (inr (_, inr (_, inr (_, inl (inr o, _))))) = absurd (o origin)
+    go (inr (_, inr (_, inr (_, inr k)))) = k.1
+
+module _ {m : LentMap} {sheet marked : List ℕ} (area : Area m.width m.height (length sheet)) where
+  -- The first part refuses.
+  pub write_refused : {out : List ℕ} {e : Refusal} (r : Result ℕ Refusal) → Prepared m true 0 0 0 0 true sheet marked (Err e) → Handed e r
+      → WriteCall m out out (wrote_map r)
+  write_refused {out} {e} r p f =
+      let q = err_from_is_err_and r f.1 in
+      rw (q.1, q.2) (record { given = go p.given; kept = λ _. refl; refused = λ _. refl; done = λ z. absurd (some_number e z) })
     where
-      go : Second m n₂ → Fits m.width m.height stamped
-      go (no_size s e) = absurd (omega arith)
-      go (no_list s f e) = absurd (omega arith)
-      go (two_share s f t e) = absurd (omega arith)
-      go (passed s f t e) = record { sides = s; size = (q.stamped (good again q s f)).size }
+      origin : ¬ ¬ Sized m → OnIt m 0 0
+      origin s = let k = sides_hold s in record { in_x = k.some_w; in_y = k.some_h }
 
-  -- The sheet's marks are the cart's rocks: so the file over its marks is the file over them, and
-  -- row 17 over its marks is the list's.
-  module _ (s : Sized m) (f : Formed m) where
-    marked_rock : (x y : ℕ) → OnIt m x y → (Marked stamped m.width m.height x y ↔ RocksOf m x y)
-    marked_rock x y o =
-        let d = (q.stamped (good again q s f)).rocks in (λ k. (d.sound x y k).stone, λ r. d.complete x y (record { on = o; stone = r }))
+      go : Gives (asking_found m 0 0 0 0 true sheet) (number_of e) → Gives (Rules.write_table m out) (number_of e)
+      go (inl k) = inl k
+      go (inr (s, inl (inl f, k))) = absurd (f (area.is (sides_hold s)))
+      go (inr (s, inl (inr f, k))) = absurd (true≢false f)
+      go (inr (s, inr (_, inl k))) = inr (s, inl k)
+      go (inr (s, inr (_, inr (f, inl (inl o, k))))) = absurd (o (origin s))
+      go (inr (s, inr (_, inr (f, inl (inr o, k))))) = absurd (o (origin s))
+      go (inr (s, inr (_, inr (f, inr k)))) = absurd (some_number e k.1)
 
-    carried : {file : List ℕ} → Written m.width m.height (Marked stamped m.width m.height) file ↔ Written m.width m.height (RocksOf m) file
-    carried = (written_moved marked_rock, written_moved (λ x y o. ((marked_rock x y o).1, (marked_rock x y o).0)))
+  module _ {map : Size} (p : Prepared m true 0 0 0 0 true sheet marked (Ok map)) where
+    free : None (asking_found m 0 0 0 0 true sheet)
+    free = gives_none (asking_found m 0 0 0 0 true sheet) 0 0 (omega arith) p.given refl
 
-    short_both : {out : List ℕ} → TooShort m.width m.height (Marked stamped m.width m.height) out ↔ TooShort m.width m.height (RocksOf m) out
-    short_both =
-        (λ t. record { file = t.file; written = carried.0 t.written; short = t.short }, λ t. record { file = t.file; written = carried.1 t.written; short = t.short })
+    formed : Formed m
+    formed = formed_holds free.1.1.0
 
-  module _ {out out' : List ℕ} {r : WroteMap} (u : WriteRest n₂ m.width m.height stamped out out' r) where
-    abbrev Third : Type 0
-    Third = Gives (before n₂ ∷ Rules.output_rule m.width m.height (Marked stamped m.width m.height) out ∷ []) r.refusal
+    -- The second part refuses: two markers share a crossing.
+    pub write_shared : {out : List ℕ} {e : Refusal} (r : Result ℕ Refusal) → (¬ (marks marked ≡ m.count)) × (e ≡ SharedCrossing) → Handed e r
+        → WriteCall m out out (wrote_map r)
+    write_shared r k f =
+        let q = err_from_is_err_and r f.1 in
+        rw (q.1, q.2, k.1)
+        (record {
+          given = inr (free.0, inr (free.1.1.0, inl (marks_shared marked formed p.left.stamped k.0, refl)));
+          kept = λ _. refl;
+          refused = λ _. refl;
+          done = λ z. absurd (omega arith);
+        })
 
-    -- The rows of all parts are the table's.
-    table : Second m n₂ → Third → Gives (Rules.write_table m out) r.refusal
-    table (no_size s d) (inl k) = inl (s, k.1 ∙ d)
-    table (no_size s d) (inr k) = absurd (k.0 (λ e. omega arith))
-    table (no_list s f d) (inl k) = inr (λ e. e s, inl (f, k.1 ∙ d))
-    table (no_list s f d) (inr k) = absurd (k.0 (λ e. omega arith))
-    table (two_share s f t d) (inl k) = inr (λ e. e s, inr (λ e. e f, inl (t, k.1 ∙ d)))
-    table (two_share s f t d) (inr k) = absurd (k.0 (λ e. omega arith))
-    table (passed s f t d) (inl k) = absurd (k.0 d)
-    table (passed s f t d) (inr (_, inl k)) = inr (λ e. e s, inr (λ e. e f, inr (t, inl ((short_both s f).0 k.0, k.1))))
-    table (passed s f t d) (inr (_, inr k)) = inr (λ e. e s, inr (λ e. e f, inr (t, inr (λ e. k.0 ((short_both s f).1 e), k.1))))
+    -- The rocks may be stamped over the markers.
+    pub may_stamp_over : MayStamp map.w map.h m.list m.count marked
+    may_stamp_over = rw (p.left.size.width, p.left.size.height) (record { formed = formed; size = p.left.stamped.size })
 
-    -- Where nothing is refused, nothing was before.
-    none_before : Second m n₂ → Third → r.refusal ≡ 0 → Sized m × Formed m
-    none_before (no_size s d) (inl k) z = absurd (omega (arith, k.1))
-    none_before (no_size s d) (inr k) z = absurd (k.0 (λ e. omega arith))
-    none_before (no_list s f d) (inl k) z = absurd (omega (arith, k.1))
-    none_before (no_list s f d) (inr k) z = absurd (k.0 (λ e. omega arith))
-    none_before (two_share s f t d) k z = (s, f)
-    none_before (passed s f t d) k z = (s, f)
+    module _ {stamped : List ℕ} (q : StampedWith map.w map.h m.clearance false m.list m.count stamped) where
+      over : StampedWith m.width m.height m.clearance false m.list m.count stamped
+      over = rw (p.left.size.width, p.left.size.height) at q
 
-    -- The call's promise.
-    pub write_call : WriteCall m out out' r
-    write_call =
-        record {
-          given = table (second area again p g q) u.given;
-          kept = u.kept;
-          refused = u.refused;
-          done = λ z.
-              let w = u.done z in
-              let k = none_before (second area again p g q) u.given z in
-              record { file = w.file; written = (carried k.0 k.1).0 w.written; counted = w.counted; is = w.is };
-        }
+      -- The sheet's marks are the cart's rocks: so the file over its marks is the file over them,
+      -- and row 17 over its marks is the list's.
+      marked_rock : (x y : ℕ) → OnIt m x y → (Marked stamped m.width m.height x y ↔ RocksOf m x y)
+      marked_rock x y o = (λ k. (over.rocks.sound x y k).stone, λ r. over.rocks.complete x y (record { on = o; stone = r }))
+
+      carried : {file : List ℕ} → Written m.width m.height (Marked stamped m.width m.height) file ↔ Written m.width m.height (RocksOf m) file
+      carried = (written_moved marked_rock, written_moved (λ x y o. ((marked_rock x y o).1, (marked_rock x y o).0)))
+
+      short_both : {out : List ℕ} → TooShort m.width m.height (Marked stamped m.width m.height) out ↔ TooShort m.width m.height (RocksOf m) out
+      short_both =
+          (λ t. record { file = t.file; written = carried.0 t.written; short = t.short }, λ t. record { file = t.file; written = carried.1 t.written; short = t.short })
+
+      -- The third part refuses or writes.
+      pub write_call : {out out' : List ℕ} (r : Result ℕ Refusal) → marks marked ≡ m.count → WriteRest map.w map.h stamped out out' r → WriteCall m out out' (wrote_map r)
+      write_call {out} {out'} r apart u = go r (rw (p.left.size.width, p.left.size.height) at u)
+        where
+          table : {n : ℕ} → Gives (Rules.output_rule m.width m.height (Marked stamped m.width m.height) out ∷ []) n → Gives (Rules.write_table m out) n
+          table (inl k) = inr (free.0, inr (free.1.1.0, inr (marks_apart marked formed p.left.stamped apart, inl (short_both.0 k.0, k.1))))
+          table (inr k) = inr (free.0, inr (free.1.1.0, inr (marks_apart marked formed p.left.stamped apart, inr (λ t. k.0 (short_both.1 t), k.1))))
+
+          go : (r : Result ℕ Refusal) → WriteRest m.width m.height stamped out out' r → WriteCall m out out' (wrote_map r)
+          go (Ok n) u = record { given = table u.given; kept = λ f. absurd (f refl); refused = λ f. absurd (f refl); done = λ _. record { file = u.done.file; written = carried.0 u.done.written; counted = u.done.counted; is = u.done.is } }
+          go (Err e) u = record { given = table u.given; kept = λ _. u.kept; refused = λ _. refl; done = λ z. absurd (some_number e z) }

@@ -1,8 +1,4 @@
--- What the parts of the public calls promise, and the way from them to the calls' promises.
+-- What the parts of the public calls promise.
 pub mod Prepared
 pub mod Morning
 pub mod Files
-pub mod Sharing
-pub mod Writing
-pub mod Putting
-pub mod Reading

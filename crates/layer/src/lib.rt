@@ -1,6 +1,5 @@
 // The public calls over the lent list of marker records. No call relies on its caller: each answers
-// by the lowest refusal that applies, or succeeds. `clearance` is the ground clearance of the cart
-// that asks, in centimetres as the markers' heights are.
+// by the lowest refusal that applies, or succeeds.
 #![tactic(auto)]
 
 pub mod files; // files.rt: the two map-file calls
@@ -9,37 +8,58 @@ pub mod pictures; // pictures.rt: the two picture calls
 mod preparing; // preparing.rt: the first part of every asking
 pub mod route; // route.rt: the drive, of which a part of the route is handed back
 
+ghost use Rattle.std.specs.Prelude.{◌≡◌};
+ghost use Rattle.field.specs.Refusals.{told};
 ghost use Rattle.calls.specs.Rules.{lent_map, lent_list};
+ghost use Rattle.calls.specs.Told.{counted, labelling, swept, four, assurance, homeward_of, drove, checked, crossing_lines};
 ghost use Rattle.calls.specs.Calls.{EnterCall, ClearCall, LabelCall, DistancesCall, MeasureCall, AssuredCall, HopCall, RegionCall, DriveCall};
 ghost use Rattle.calls.specs.CheckCall.{CheckCall};
 ghost use Rattle.calls.specs.SweepsCall.{SweepsCall};
 ghost use Rattle.calls.specs.LinesCall.{LinesCall, LinesDriveCall};
-ghost use Rattle.layer.specs.Prepared.{Seeks};
+ghost use Rattle.layer.specs.Prepared.{lent_of, Seeks};
 
-use calls::{Assurance, Checked, Counted, CrossingLines, Drove, Four, Homeward, Labelling, Swept};
-use field::Marker;
-use field::refusals::SUCCESS;
-use judging::Sought;
-use preparing::prepare;
+use field::{Fault, Hops, Labelled, Marker, Place, Refusal};
+use preparing::{ORIGIN, prepare};
 
-// What is found of the map, the list and an id. The id is looked for only where the list is well
-// formed.
-fn seek(list: &[Marker], count: usize, w: usize, h: usize, id: u16) -> Sought
+// What is lent with every asking: "a list of marker records with a count of those in use", the
+// map's width and height, and the ground clearance of the cart that asks, in centimetres as the
+// markers' heights are. Nothing is known of it: each call judges it.
+#[derive(Clone, Copy, Debug, PartialEq, Eq)]
+pub struct LentMap<'a> {
+    pub list: &'a [Marker],
+    pub count: usize,
+    pub w: usize,
+    pub h: usize,
+    pub clearance: u16,
+}
+
+impl<'a> LentMap<'a> {
+    // The five as a call is lent them.
+    pub fn new(list: &'a [Marker], count: usize, w: usize, h: usize, clearance: u16) -> LentMap<'a>
+        ensures { lent_of result ≡ lent_map list.now count w h clearance }
+    {
+        LentMap {
+            list,
+            count,
+            w,
+            h,
+            clearance,
+        }
+    }
+}
+
+// What is found of the map, the list and an id: whether it is in use. The id is looked for only
+// where the list is well formed. Entering and clearing change the list, so it is no LentMap here.
+fn seek(list: &[Marker], count: usize, w: usize, h: usize, id: u16) -> Result<bool, Refusal>
     ensures { Seeks (lent_list list.now count w h) id result }
 {
-    let sized = sheets::sized(w, h);
-    if !sized {
-        return Sought::BadSize;
+    if sheets::sized(w, h).is_none() {
+        return Err(Refusal::BadSize);
     }
-    let well = records::well_formed(list, count, w, h);
-    if !well {
-        return Sought::BadList;
+    if !records::well_formed(list, count, w, h) {
+        return Err(Refusal::BadList);
     }
-    let k = records::place_of(list, count, id);
-    if count <= k {
-        return Sought::NotInUse;
-    }
-    judging::bears(list[k], id)
+    Ok(records::in_use(list, count, id))
 }
 
 // Enters a marker, of any height. Hands back the new count, or the refusal: 1, 3, 4, 5 or 7.
@@ -49,288 +69,188 @@ pub fn bodkin_enter(
     w: usize,
     h: usize,
     id: u16,
-    x: usize,
-    y: usize,
+    p: Place,
     height: u16,
-) -> Counted
-    ensures { EnterCall (lent_list list.old count w h) id x y height list.new result }
+) -> Result<usize, Refusal>
+    ensures { EnterCall (lent_list list.old count w h) id p.x p.y height list.new (counted result) }
 {
-    let found = seek(list, count, w, h, id);
-    let n = judging::enter_refusal(found, w, h, id, x, y, count, list.len());
-    if n != SUCCESS {
-        return Counted {
-            refusal: n,
-            count: 0,
-        };
-    }
-    let m = judging::marker(id, x, y, height);
-    let next = records::enter(list, count, m);
-    Counted {
-        refusal: SUCCESS,
-        count: next,
-    }
+    let used = seek(list, count, w, h, id)?;
+    judging::may_enter(used, w, h, id, p, count, list.len())?;
+    let m = judging::marker(id, p, height);
+    Ok(records::enter(list, count, m))
 }
 
 // Clears the marker with this id. Hands back the new count, or the refusal: 1, 3 or 6.
-pub fn bodkin_clear(list: &mut [Marker], count: usize, w: usize, h: usize, id: u16) -> Counted
-    ensures { ClearCall (lent_list list.old count w h) id list.new result }
+pub fn bodkin_clear(
+    list: &mut [Marker],
+    count: usize,
+    w: usize,
+    h: usize,
+    id: u16,
+) -> Result<usize, Refusal>
+    ensures { ClearCall (lent_list list.old count w h) id list.new (counted result) }
 {
-    let found = seek(list, count, w, h, id);
-    let n = judging::clear_refusal(found);
-    if n != SUCCESS {
-        return Counted {
-            refusal: n,
-            count: 0,
-        };
-    }
-    let next = records::clear(list, count, id);
-    Counted {
-        refusal: SUCCESS,
-        count: next,
-    }
+    let used = seek(list, count, w, h, id)?;
+    judging::may_clear(used)?;
+    Ok(records::clear(list, count, id))
 }
 
 // Labels the map. Hands back the numbers of rocks' crossings, shut crossings and groups, or the
 // refusal: 1, 2 or 3.
-pub fn bodkin_label(
-    list: &[Marker],
-    count: usize,
-    w: usize,
-    h: usize,
-    clearance: u16,
-    labels: &mut [u8],
-) -> Labelling
-    ensures { LabelCall (lent_map list.now count w h clearance) labels.old labels.new result }
+pub fn bodkin_label(lent: LentMap<'_>, labels: &mut [u8]) -> Result<Labelled, Refusal>
+    ensures { LabelCall (lent_of lent.entry) labels.old labels.new (labelling result) }
 {
-    let n = prepare(
-        list, count, w, h, clearance, false, 0, 0, 0, 0, true, labels,
-    );
-    askings::label(n, w, h, labels)
+    let map = prepare(lent, false, ORIGIN, ORIGIN, true, labels)?;
+    Ok(labels::label(labels, map))
 }
 
 // Labels the map sweep by sweep. Hands back the number of sweeps that changed something, or the
 // refusal: 1, 2 or 3.
-pub fn bodkin_sweeps(
-    list: &[Marker],
-    count: usize,
-    w: usize,
-    h: usize,
-    clearance: u16,
-    labels: &mut [u8],
-) -> Swept
-    ensures { SweepsCall (lent_map list.now count w h clearance) labels.old labels.new result }
+pub fn bodkin_sweeps(lent: LentMap<'_>, labels: &mut [u8]) -> Result<usize, Refusal>
+    ensures { SweepsCall (lent_of lent.entry) labels.old labels.new (swept result) }
 {
-    let n = prepare(
-        list, count, w, h, clearance, false, 0, 0, 0, 0, true, labels,
-    );
-    askings::sweeps(n, w, h, labels)
+    let map = prepare(lent, false, ORIGIN, ORIGIN, true, labels)?;
+    Ok(sweeping::sweeps(labels, map))
 }
 
-// The four distances of (x, y), east, south, west, north, or the refusal: 1, 2, 3 or 4.
-pub fn bodkin_distances(
-    list: &[Marker],
-    count: usize,
-    w: usize,
-    h: usize,
-    clearance: u16,
-    x: usize,
-    y: usize,
-    labels: &mut [u8],
-) -> Four
-    ensures { DistancesCall (lent_map list.now count w h clearance) x y labels.old labels.new result }
+// The four distances of p, east, south, west, north, or the refusal: 1, 2, 3 or 4.
+pub fn bodkin_distances(lent: LentMap<'_>, p: Place, labels: &mut [u8]) -> Result<[u16; 4], Refusal>
+    ensures { DistancesCall (lent_of lent.entry) p.x p.y labels.old labels.new (four result) }
 {
-    let n = prepare(
-        list, count, w, h, clearance, false, x, y, x, y, true, labels,
-    );
-    askings::distances(n, w, h, x, y, labels)
+    let map = prepare(lent, false, p, p, true, labels)?;
+    Ok(askings::distances(labels, map, p))
 }
 
-// The distances of the whole map, into one lent sheet for each way. Answers the refusal, 1, 2 or 3,
-// or 0.
+// The distances of the whole map, into one lent sheet for each way; or the refusal, 1, 2 or 3.
 pub fn bodkin_measure(
-    list: &[Marker],
-    count: usize,
-    w: usize,
-    h: usize,
-    clearance: u16,
+    lent: LentMap<'_>,
     labels: &mut [u8],
     east: &mut [u16],
     south: &mut [u16],
     west: &mut [u16],
     north: &mut [u16],
-) -> u8
-    ensures { MeasureCall (lent_map list.now count w h clearance) labels.old east.old south.old west.old north.old labels.new east.new south.new west.new north.new result }
+) -> Result<(), Refusal>
+    ensures { MeasureCall (lent_of lent.entry) labels.old east.old south.old west.old north.old labels.new east.new south.new west.new north.new (told result) }
 {
-    let others = judging::four_fit(w, h, east.len(), south.len(), west.len(), north.len());
-    let n = prepare(
-        list, count, w, h, clearance, false, 0, 0, 0, 0, others, labels,
+    let others = judging::four_fit(
+        lent.w,
+        lent.h,
+        east.len(),
+        south.len(),
+        west.len(),
+        north.len(),
     );
-    askings::measure(n, w, h, labels, east, south, west, north)
+    let map = prepare(lent, false, ORIGIN, ORIGIN, others, labels)?;
+    askings::measure(labels, map, east, south, west, north);
+    Ok(())
 }
 
-// Whether home (hx, hy) is assured for (x, y), or the refusal: 1, 2, 3, 4 or 8.
+// Whether home is assured for p, or the refusal: 1, 2, 3, 4 or 8.
 pub fn bodkin_assured(
-    list: &[Marker],
-    count: usize,
-    w: usize,
-    h: usize,
-    clearance: u16,
-    hx: usize,
-    hy: usize,
-    x: usize,
-    y: usize,
+    lent: LentMap<'_>,
+    home: Place,
+    p: Place,
     labels: &mut [u8],
-) -> Assurance
-    ensures { AssuredCall (lent_map list.now count w h clearance) hx hy x y labels.old labels.new result }
+) -> Result<bool, Refusal>
+    ensures { AssuredCall (lent_of lent.entry) home.x home.y p.x p.y labels.old labels.new (assurance result) }
 {
-    let n = prepare(
-        list, count, w, h, clearance, false, hx, hy, x, y, true, labels,
-    );
-    askings::assured(n, w, h, hx, hy, x, y, labels)
+    let map = prepare(lent, false, home, p, true, labels)?;
+    askings::assured(labels, map, home, p)
 }
 
-// Every permitted hop from (x, y) towards home (hx, hy), none at home, or the refusal: 1, 2, 3, 4,
-// 8 or 11.
+// Every permitted hop from p towards home, none at home, or the refusal: 1, 2, 3, 4, 8 or 11.
 pub fn bodkin_hop(
-    list: &[Marker],
-    count: usize,
-    w: usize,
-    h: usize,
-    clearance: u16,
-    hx: usize,
-    hy: usize,
-    x: usize,
-    y: usize,
+    lent: LentMap<'_>,
+    home: Place,
+    p: Place,
     labels: &mut [u8],
-) -> Homeward
-    ensures { HopCall (lent_map list.now count w h clearance) hx hy x y labels.old labels.new result }
+) -> Result<Hops, Refusal>
+    ensures { HopCall (lent_of lent.entry) home.x home.y p.x p.y labels.old labels.new (homeward_of result) }
 {
-    let n = prepare(
-        list, count, w, h, clearance, false, hx, hy, x, y, true, labels,
-    );
-    askings::hop(n, w, h, hx, hy, x, y, labels)
+    let map = prepare(lent, false, home, p, true, labels)?;
+    askings::hop(labels, map, home, p)
 }
 
-// The crossings on at least one shortest drive from (sx, sy) to (dx, dy). Answers the refusal, 1,
-// 2, 3, 4, 8 or 9, or 0.
+// The crossings on at least one shortest drive between two places; or the refusal, 1, 2, 3, 4, 8 or
+// 9.
 pub fn bodkin_region(
-    list: &[Marker],
-    count: usize,
-    w: usize,
-    h: usize,
-    clearance: u16,
-    sx: usize,
-    sy: usize,
-    dx: usize,
-    dy: usize,
+    lent: LentMap<'_>,
+    from: Place,
+    to: Place,
     labels: &mut [u8],
     region: &mut [u8],
-) -> u8
-    ensures { RegionCall (lent_map list.now count w h clearance) sx sy dx dy labels.old region.old labels.new region.new result }
+) -> Result<(), Refusal>
+    ensures { RegionCall (lent_of lent.entry) from.x from.y to.x to.y labels.old region.old labels.new region.new (told result) }
 {
-    let others = judging::fits(w, h, region.len());
-    let n = prepare(
-        list, count, w, h, clearance, false, sx, sy, dx, dy, others, labels,
-    );
-    askings::region(n, w, h, sx, sy, dx, dy, labels, region)
+    let others = judging::fits(lent.w, lent.h, region.len());
+    let map = prepare(lent, false, from, to, others, labels)?;
+    askings::region(labels, map, from, to, region)
 }
 
-// A shortest drive from (sx, sy) to (dx, dy), drawn from the lent state, at the front of the lent
-// route. Hands back how many crossings it has, or the refusal: 1, 2, 3, 4, 8, 9 or 10.
+// A shortest drive between two places, drawn from the lent state, at the front of the lent route.
+// Hands back how many crossings it has, or the refusal: 1, 2, 3, 4, 8, 9 or 10.
 pub fn bodkin_drive(
-    list: &[Marker],
-    count: usize,
-    w: usize,
-    h: usize,
-    clearance: u16,
-    sx: usize,
-    sy: usize,
-    dx: usize,
-    dy: usize,
+    lent: LentMap<'_>,
+    from: Place,
+    to: Place,
     labels: &mut [u8],
     region: &mut [u8],
     route: &mut [u16],
     state: &mut u32,
-) -> Drove
-    ensures { DriveCall (lent_map list.now count w h clearance) sx sy dx dy labels.old region.old route.old state.old labels.new region.new route.new state.new result }
+) -> Result<usize, Refusal>
+    ensures { DriveCall (lent_of lent.entry) from.x from.y to.x to.y labels.old region.old route.old state.old labels.new region.new route.new state.new (drove result) }
 {
-    let others = judging::fits(w, h, region.len());
-    let n = prepare(
-        list, count, w, h, clearance, false, sx, sy, dx, dy, others, labels,
-    );
-    askings::drive(n, w, h, sx, sy, dx, dy, labels, region, route, state)
+    let others = judging::fits(lent.w, lent.h, region.len());
+    let map = prepare(lent, false, from, to, others, labels)?;
+    askings::drive(labels, map, from, to, region, route, state)
 }
 
-// Checks a drawn list of crossing numbers against the shortest drives from (sx, sy) to (dx, dy).
-// Hands back why it is at fault and the position of the first crossing at fault, both 0 where it is
-// accepted, or the refusal: 1, 2, 3, 4 or 8.
+// Checks a drawn list of crossing numbers against the shortest drives between two places. Hands
+// back why it is at fault and the position of the first crossing at fault, or that it is accepted;
+// or the refusal: 1, 2, 3, 4 or 8.
 pub fn bodkin_check(
-    list: &[Marker],
-    count: usize,
-    w: usize,
-    h: usize,
-    clearance: u16,
-    sx: usize,
-    sy: usize,
-    dx: usize,
-    dy: usize,
+    lent: LentMap<'_>,
+    from: Place,
+    to: Place,
     labels: &mut [u8],
     drawn: &[u16],
-) -> Checked
-    ensures { CheckCall (lent_map list.now count w h clearance) sx sy dx dy labels.old drawn.now labels.new result }
+) -> Result<Result<(), Fault>, Refusal>
+    ensures { CheckCall (lent_of lent.entry) from.x from.y to.x to.y labels.old drawn.now labels.new (checked result) }
 {
-    let n = prepare(
-        list, count, w, h, clearance, false, sx, sy, dx, dy, true, labels,
-    );
-    askings::check(n, w, h, sx, sy, dx, dy, labels, drawn)
+    let map = prepare(lent, false, from, to, true, labels)?;
+    askings::check(labels, map, from, to, drawn)
 }
 
-// Whether some column and some row between (sx, sy) and (dx, dy) are open throughout the rectangle
-// that they span. Hands back the westmost such column and the southmost such row, zeros beside a
-// no, or the refusal: 1, 2, 3, 4 or 8.
+// Whether some column and some row between two places are open throughout the rectangle that they
+// span. Hands back the place where the westmost such column and the southmost such row meet, if
+// there are such; or the refusal: 1, 2, 3, 4 or 8.
 pub fn bodkin_lines(
-    list: &[Marker],
-    count: usize,
-    w: usize,
-    h: usize,
-    clearance: u16,
-    sx: usize,
-    sy: usize,
-    dx: usize,
-    dy: usize,
+    lent: LentMap<'_>,
+    from: Place,
+    to: Place,
     labels: &mut [u8],
-) -> CrossingLines
-    ensures { LinesCall (lent_map list.now count w h clearance) sx sy dx dy labels.old labels.new result }
+) -> Result<Option<Place>, Refusal>
+    ensures { LinesCall (lent_of lent.entry) from.x from.y to.x to.y labels.old labels.new (crossing_lines result) }
 {
-    let n = prepare(
-        list, count, w, h, clearance, false, sx, sy, dx, dy, true, labels,
-    );
-    askings::lines(n, w, h, sx, sy, dx, dy, labels)
+    let map = prepare(lent, false, from, to, true, labels)?;
+    askings::lines(labels, map, from, to)
 }
 
-// The drive from (sx, sy) to (dx, dy) by way of the crossing where that column and that row meet,
-// drawn from the lent state, at the front of the lent route. Hands back how many crossings it has,
-// or the refusal: 1, 2, 3, 4, 8, 19 or 10, in this order.
+// The drive between two places by way of the crossing where that column and that row meet, drawn
+// from the lent state, at the front of the lent route. Hands back how many crossings it has, or the
+// refusal: 1, 2, 3, 4, 8, 19 or 10, in this order.
 pub fn bodkin_lines_drive(
-    list: &[Marker],
-    count: usize,
-    w: usize,
-    h: usize,
-    clearance: u16,
-    sx: usize,
-    sy: usize,
-    dx: usize,
-    dy: usize,
+    lent: LentMap<'_>,
+    from: Place,
+    to: Place,
     labels: &mut [u8],
     region: &mut [u8],
     route: &mut [u16],
     state: &mut u32,
-) -> Drove
-    ensures { LinesDriveCall (lent_map list.now count w h clearance) sx sy dx dy labels.old region.old route.old state.old labels.new region.new route.new state.new result }
+) -> Result<usize, Refusal>
+    ensures { LinesDriveCall (lent_of lent.entry) from.x from.y to.x to.y labels.old region.old route.old state.old labels.new region.new route.new state.new (drove result) }
 {
-    let others = judging::fits(w, h, region.len());
-    let n = prepare(
-        list, count, w, h, clearance, false, sx, sy, dx, dy, others, labels,
-    );
-    askings::lines_drive(n, w, h, sx, sy, dx, dy, labels, region, route, state)
+    let others = judging::fits(lent.w, lent.h, region.len());
+    let map = prepare(lent, false, from, to, others, labels)?;
+    askings::lines_drive(labels, map, from, to, region, route, state)
 }

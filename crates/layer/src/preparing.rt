@@ -1,37 +1,29 @@
 // What every asking does first. It stands apart from the calls, so that the calls of the root and
 // those of its modules rest on it, and it on none of them.
-ghost use Rattle.calls.specs.Rules.{lent_map};
-ghost use Rattle.layer.specs.Prepared.{Prepared};
+ghost use Rattle.layer.specs.Prepared.{lent_of, Prepared};
 
-use field::Marker;
-use field::refusals::SUCCESS;
+use super::LentMap;
+use field::{Place, Refusal, Size};
 
-// The first part of every asking: the lowest of refusals 1 to 4, and where there is none, 0, and
-// the rocks of a cart of this clearance stamped on the label sheet; with `low`, every marker, low
-// ones included. `others` tells whether every other lent sheet is of the
-// map's size; (x, y) and (a, b) are the places asked; a call that asks no place names (0, 0) twice,
-// which is on every map.
+// What a call names that asks for no place: it is on every map.
+pub const ORIGIN: Place = Place { x: 0, y: 0 };
+
+// The first part of every asking: the lowest of refusals 1 to 4; and where there is none, the map's
+// size, and the rocks of a cart of this clearance stamped on the label sheet; with `low`, every
+// marker, low ones included. `others` tells whether every other lent sheet is of the map's size; a
+// and b are the places asked.
 pub fn prepare(
-    list: &[Marker],
-    count: usize,
-    w: usize,
-    h: usize,
-    clearance: u16,
+    lent: LentMap<'_>,
     low: bool,
-    x: usize,
-    y: usize,
-    a: usize,
-    b: usize,
+    a: Place,
+    b: Place,
     others: bool,
     labels: &mut [u8],
-) -> u8
-    ensures { Prepared (lent_map list.now count w h clearance) low x y a b others labels.old labels.new result }
+) -> Result<Size, Refusal>
+    ensures { Prepared (lent_of lent.entry) low a.x a.y b.x b.y others labels.old labels.new result }
 {
-    let well = records::well_formed(list, count, w, h);
-    let n = judging::lowest(w, h, labels.len(), others, well, x, y, a, b);
-    if n != SUCCESS {
-        return n;
-    }
-    records::stamp(list, count, w, h, clearance, low, labels);
-    SUCCESS
+    let well = records::well_formed(lent.list, lent.count, lent.w, lent.h);
+    let map = judging::lowest(lent.w, lent.h, labels.len(), others, well, a, b)?;
+    records::stamp(lent.list, lent.count, map, lent.clearance, low, labels);
+    Ok(map)
 }

@@ -13,7 +13,8 @@ use calls::{
     Assurance, Checked, Counted, CrossingLines, Drove, Four, Homeward, Labelling, ReadMap,
     SheetRead, SheetWritten, Swept, WroteMap,
 };
-use field::Marker;
+use field::{Marker, Place};
+use layer::LentMap;
 
 // Enters a marker, of any height. Hands back the new count, or the refusal: 1, 3, 4, 5 or 7.
 #[unsafe(no_mangle)]
@@ -29,7 +30,8 @@ pub extern "C" fn bodkin_enter(
 ) -> Counted
     ensures { EnterCall (lent_list list.old count w h) id x y height list.new result }
 {
-    layer::bodkin_enter(list, count, w, h, id, x, y, height)
+    let p = Place { x, y };
+    layer::bodkin_enter(list, count, w, h, id, p, height).into()
 }
 
 // Clears the marker with this id. Hands back the new count, or the refusal: 1, 3 or 6.
@@ -43,7 +45,7 @@ pub extern "C" fn bodkin_clear(
 ) -> Counted
     ensures { ClearCall (lent_list list.old count w h) id list.new result }
 {
-    layer::bodkin_clear(list, count, w, h, id)
+    layer::bodkin_clear(list, count, w, h, id).into()
 }
 
 // Labels the map. Hands back the numbers of rocks' crossings, shut crossings and groups, or the
@@ -59,7 +61,8 @@ pub extern "C" fn bodkin_label(
 ) -> Labelling
     ensures { LabelCall (lent_map list.now count w h clearance) labels.old labels.new result }
 {
-    layer::bodkin_label(list, count, w, h, clearance, labels)
+    let lent = LentMap::new(list, count, w, h, clearance);
+    layer::bodkin_label(lent, labels).into()
 }
 
 // Labels the map sweep by sweep. Hands back the number of sweeps that changed something, or the
@@ -75,7 +78,8 @@ pub extern "C" fn bodkin_sweeps(
 ) -> Swept
     ensures { SweepsCall (lent_map list.now count w h clearance) labels.old labels.new result }
 {
-    layer::bodkin_sweeps(list, count, w, h, clearance, labels)
+    let lent = LentMap::new(list, count, w, h, clearance);
+    layer::bodkin_sweeps(lent, labels).into()
 }
 
 // The four distances of (x, y), east, south, west, north, or the refusal: 1, 2, 3 or 4.
@@ -92,7 +96,9 @@ pub extern "C" fn bodkin_distances(
 ) -> Four
     ensures { DistancesCall (lent_map list.now count w h clearance) x y labels.old labels.new result }
 {
-    layer::bodkin_distances(list, count, w, h, clearance, x, y, labels)
+    let lent = LentMap::new(list, count, w, h, clearance);
+    let p = Place { x, y };
+    layer::bodkin_distances(lent, p, labels).into()
 }
 
 // The distances of the whole map, into one lent sheet for each way. Answers the refusal, 1, 2 or 3,
@@ -112,9 +118,8 @@ pub extern "C" fn bodkin_measure(
 ) -> u8
     ensures { MeasureCall (lent_map list.now count w h clearance) labels.old east.old south.old west.old north.old labels.new east.new south.new west.new north.new result }
 {
-    layer::bodkin_measure(
-        list, count, w, h, clearance, labels, east, south, west, north,
-    )
+    let lent = LentMap::new(list, count, w, h, clearance);
+    calls::number(layer::bodkin_measure(lent, labels, east, south, west, north))
 }
 
 // Whether home (hx, hy) is assured for (x, y), or the refusal: 1, 2, 3, 4 or 8.
@@ -133,7 +138,10 @@ pub extern "C" fn bodkin_assured(
 ) -> Assurance
     ensures { AssuredCall (lent_map list.now count w h clearance) hx hy x y labels.old labels.new result }
 {
-    layer::bodkin_assured(list, count, w, h, clearance, hx, hy, x, y, labels)
+    let lent = LentMap::new(list, count, w, h, clearance);
+    let home = Place { x: hx, y: hy };
+    let p = Place { x, y };
+    layer::bodkin_assured(lent, home, p, labels).into()
 }
 
 // Every permitted hop from (x, y) towards home (hx, hy), none at home, or the refusal: 1, 2, 3, 4,
@@ -153,7 +161,10 @@ pub extern "C" fn bodkin_hop(
 ) -> Homeward
     ensures { HopCall (lent_map list.now count w h clearance) hx hy x y labels.old labels.new result }
 {
-    layer::bodkin_hop(list, count, w, h, clearance, hx, hy, x, y, labels)
+    let lent = LentMap::new(list, count, w, h, clearance);
+    let home = Place { x: hx, y: hy };
+    let p = Place { x, y };
+    layer::bodkin_hop(lent, home, p, labels).into()
 }
 
 // The crossings on at least one shortest drive from (sx, sy) to (dx, dy). Answers the refusal, 1,
@@ -174,7 +185,10 @@ pub extern "C" fn bodkin_region(
 ) -> u8
     ensures { RegionCall (lent_map list.now count w h clearance) sx sy dx dy labels.old region.old labels.new region.new result }
 {
-    layer::bodkin_region(list, count, w, h, clearance, sx, sy, dx, dy, labels, region)
+    let lent = LentMap::new(list, count, w, h, clearance);
+    let from = Place { x: sx, y: sy };
+    let to = Place { x: dx, y: dy };
+    calls::number(layer::bodkin_region(lent, from, to, labels, region))
 }
 
 // A shortest drive from (sx, sy) to (dx, dy), drawn from the lent state, at the front of the lent
@@ -197,9 +211,10 @@ pub extern "C" fn bodkin_drive(
 ) -> Drove
     ensures { DriveCall (lent_map list.now count w h clearance) sx sy dx dy labels.old region.old route.old state.old labels.new region.new route.new state.new result }
 {
-    layer::bodkin_drive(
-        list, count, w, h, clearance, sx, sy, dx, dy, labels, region, route, state,
-    )
+    let lent = LentMap::new(list, count, w, h, clearance);
+    let from = Place { x: sx, y: sy };
+    let to = Place { x: dx, y: dy };
+    layer::bodkin_drive(lent, from, to, labels, region, route, state).into()
 }
 
 // Checks a drawn list of crossing numbers against the shortest drives from (sx, sy) to (dx, dy).
@@ -221,7 +236,10 @@ pub extern "C" fn bodkin_check(
 ) -> Checked
     ensures { CheckCall (lent_map list.now count w h clearance) sx sy dx dy labels.old drawn.now labels.new result }
 {
-    layer::bodkin_check(list, count, w, h, clearance, sx, sy, dx, dy, labels, drawn)
+    let lent = LentMap::new(list, count, w, h, clearance);
+    let from = Place { x: sx, y: sy };
+    let to = Place { x: dx, y: dy };
+    layer::bodkin_check(lent, from, to, labels, drawn).into()
 }
 
 // Whether some column and some row between (sx, sy) and (dx, dy) are open throughout the rectangle
@@ -242,7 +260,10 @@ pub extern "C" fn bodkin_lines(
 ) -> CrossingLines
     ensures { LinesCall (lent_map list.now count w h clearance) sx sy dx dy labels.old labels.new result }
 {
-    layer::bodkin_lines(list, count, w, h, clearance, sx, sy, dx, dy, labels)
+    let lent = LentMap::new(list, count, w, h, clearance);
+    let from = Place { x: sx, y: sy };
+    let to = Place { x: dx, y: dy };
+    layer::bodkin_lines(lent, from, to, labels).into()
 }
 
 // The drive from (sx, sy) to (dx, dy) by way of the crossing where that column and that row meet,
@@ -266,9 +287,10 @@ pub extern "C" fn bodkin_lines_drive(
 ) -> Drove
     ensures { LinesDriveCall (lent_map list.now count w h clearance) sx sy dx dy labels.old region.old route.old state.old labels.new region.new route.new state.new result }
 {
-    layer::bodkin_lines_drive(
-        list, count, w, h, clearance, sx, sy, dx, dy, labels, region, route, state,
-    )
+    let lent = LentMap::new(list, count, w, h, clearance);
+    let from = Place { x: sx, y: sy };
+    let to = Place { x: dx, y: dy };
+    layer::bodkin_lines_drive(lent, from, to, labels, region, route, state).into()
 }
 
 // Writes the list as a map file, P4: the rocks of a cart of this clearance. Hands back how many
@@ -286,7 +308,8 @@ pub extern "C" fn bodkin_write(
 ) -> WroteMap
     ensures { WriteCall (lent_map list.now count w h clearance) out.old out.new result }
 {
-    layer::files::bodkin_write(list, count, w, h, clearance, out)
+    let lent = LentMap::new(list, count, w, h, clearance);
+    layer::files::bodkin_write(lent, out).into()
 }
 
 // Reads a map file. Its rocks become markers with ids 1, 2, 3 and on, in raster order, in the first
@@ -296,7 +319,7 @@ pub extern "C" fn bodkin_write(
 pub extern "C" fn bodkin_read(src: &[u8], list: &mut [Marker]) -> ReadMap
     ensures { ReadCall src.now list.old list.new result }
 {
-    layer::files::bodkin_read(src, list)
+    layer::files::bodkin_read(src, list).into()
 }
 
 // Writes a sheet as a picture, P5, two bytes a crossing. Hands back the number of bytes written, or
@@ -310,7 +333,7 @@ pub extern "C" fn bodkin_write_sheet(
 ) -> SheetWritten
     ensures { WriteSheetCall sheet.now w h out.old out.new result }
 {
-    layer::pictures::bodkin_write_sheet(sheet, w, h, out)
+    layer::pictures::bodkin_write_sheet(sheet, w, h, out).into()
 }
 
 // Reads a picture into a sheet of its size, by crossing number: one of two bytes a crossing, or an
@@ -320,5 +343,5 @@ pub extern "C" fn bodkin_write_sheet(
 pub extern "C" fn bodkin_read_sheet(src: &[u8], sheet: &mut [u16]) -> SheetRead
     ensures { ReadSheetCall src.now sheet.old sheet.new result }
 {
-    layer::pictures::bodkin_read_sheet(src, sheet)
+    layer::pictures::bodkin_read_sheet(src, sheet).into()
 }

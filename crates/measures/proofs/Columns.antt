@@ -1,7 +1,7 @@
 -- The running numbers of all columns at once, row after row: one row made of the row beside it, and
 -- the rows made so far.
-use mathlib.Core.Path.{◌≡◌, refl, sym, subst, ap, ap₂, ◌∙◌}
-use mathlib.Core.Bool.{Bool}
+use mathlib.Core.Path.{◌≡◌, sym, subst, ap, ap₂, ◌∙◌}
+use Rattle.measures.specs.declared.each.End.{End}
 use mathlib.Core.List.{List}
 use mathlib.Core.Logic.{◌≢◌}
 use Prim.Native.Nat.{ℕ, suc, ◌+◌, ◌*◌, ◌-◌, ◌<◌, ◌≤◌}
@@ -10,9 +10,19 @@ use native.Mathlib.Decide.{ℕ_discrete}
 use lib.ListN.{length, get_or, set, length-set}
 use Rattle.field.specs.Map.{On, number, at}
 use Rattle.field.proofs.Geometry.Links.{moved}
-use Rattle.measures.specs.Running.{nth, Nth, onward, RowMade, ColumnsRun}
+use Rattle.measures.specs.Running.{nth, Nth, onward, RowMade}
 use Rattle.measures.proofs.Lines.{nth_lt, nth_one}
-use Rattle.measures.proofs.Filling.{stored, stored_other}
+use Rattle.field.specs.Workings.Sheet.{number_lt}
+use Rattle.field.proofs.Workings.GridLaws.{number_one}
+use lib.Seq.{get_or-set_same, get_or-set_other}
+
+-- A store at one crossing of a sheet of the map.
+module _ {w h x y : ℕ} (u : List ℕ) (n : ℕ) (room : length u ≡ h * w) (o : On w h x y) where
+  pub stored : at (set u (number w x y) n) w x y ≡ n
+  stored = get_or-set_same u (number w x y) n 0 (omega (arith, number_lt w h x y o))
+
+  pub stored_other : (a b : ℕ) → On w h a b → ¬ ((a ≡ x) × (b ≡ y)) → at (set u (number w x y) n) w a b ≡ at u w a b
+  stored_other a b m d = get_or-set_other u (number w x y) (number w a b) n 0 (λ e. d (number_one o m e))
 
 -- Row y, its first x crossings made.
 pub record Making (w h y z : ℕ) (u v : List ℕ) (x : ℕ) : Type 0 where
@@ -20,9 +30,6 @@ pub record Making (w h y z : ℕ) (u v : List ℕ) (x : ℕ) : Type 0 where
   pub made : (a : ℕ) → a < x → at v w a y ≡ onward (at u w a z) (at u w a y)
   pub ahead : (a : ℕ) → x ≤ a → a < w → at v w a y ≡ at u w a y
   pub rest : (a b : ℕ) → On w h a b → b ≢ y → at v w a b ≡ at u w a b
-
-pub making_none : {w h y z : ℕ} {u : List ℕ} → Making w h y z u u 0
-making_none = record { size = refl; made = λ a l. absurd (omega arith); ahead = λ a l m. refl; rest = λ a b o d. refl }
 
 making_more : {w h y z x q : ℕ} {u v : List ℕ} → length u ≡ h * w → On w h x y → z < h → y ≢ z → Making w h y z u v x
     → q ≡ onward (at v w x z) (at v w x y) → Making w h y z u (set v (number w x y) q) (x + 1)
@@ -52,20 +59,14 @@ making_at {w} {h} {y} {z} {x} {i} {j} {q} {u} {v} room o in_z d m p n e =
     subst (λ (i : ℕ). Making w h y z u (set v i q) (x + 1)) (sym p)
     (making_more room o in_z d m (e ∙ ap₂ (λ (j i : ℕ). onward (get_or v j 0) (get_or v i 0)) n p))
 
-pub making_all : {w h y z x : ℕ} {u v : List ℕ} → Making w h y z u v x → w ≤ x → RowMade w h y z u v
-making_all m l = record { size = m.size; made = λ a i. m.made a (omega arith); rest = m.rest }
-
 -- The first k rows made, counted from the edge.
-pub record RowsMade (w h : ℕ) (e : Bool) (u v : List ℕ) (k : ℕ) : Type 0 where
+pub record RowsMade (w h : ℕ) (e : End) (u v : List ℕ) (k : ℕ) : Type 0 where
   pub size : length v ≡ length u
   pub edge : (x : ℕ) → x < w → at v w x (nth e h 0) ≡ at u w x (nth e h 0)
   pub ran : (x j : ℕ) → x < w → suc j < k → at v w x (nth e h (suc j)) ≡ onward (at v w x (nth e h j)) (at u w x (nth e h (suc j)))
   pub ahead : (x j : ℕ) → x < w → k ≤ j → j < h → at v w x (nth e h j) ≡ at u w x (nth e h j)
 
-pub rows_made_edge : {w h : ℕ} {e : Bool} {u : List ℕ} → RowsMade w h e u u 1
-rows_made_edge = record { size = refl; edge = λ x l. refl; ran = λ x j l m. absurd (omega arith); ahead = λ x j l m i. refl }
-
-rows_made_more : {w h : ℕ} {e : Bool} {u v t : List ℕ} {k : ℕ} → 0 < k → k < h → RowsMade w h e u v k
+rows_made_more : {w h : ℕ} {e : End} {u v t : List ℕ} {k : ℕ} → 0 < k → k < h → RowsMade w h e u v k
     → RowMade w h (nth e h k) (nth e h (k - 1)) v t → RowsMade w h e u t (k + 1)
 rows_made_more {w} {h} {e} {u} {v} {t} {k} some in-h p r =
     record {
@@ -97,13 +98,6 @@ rows_made_more {w} {h} {e} {u} {v} {t} {k} some in-h p r =
         ∙ ap (λ (n : ℕ). onward n (at u w x (nth e h (suc j)))) (sym (other x j l (omega arith) (λ f. omega arith)))
 
 -- The same, told of the rows that places k and k - 1 are; they are two.
-pub rows_made_at : {w h : ℕ} {e : Bool} {u v t : List ℕ} {k y z : ℕ} → 0 < k → k < h → RowsMade w h e u v k → Nth e h k y → Nth e h (k - 1) z
+pub rows_made_at : {w h : ℕ} {e : End} {u v t : List ℕ} {k y z : ℕ} → 0 < k → k < h → RowsMade w h e u v k → Nth e h k y → Nth e h (k - 1) z
     → RowMade w h y z v t → RowsMade w h e u t (k + 1)
 rows_made_at {w} {h} {v = v} {t = t} some in-h p m n r = rows_made_more some in-h p (moved (λ y z. RowMade w h y z v t) m.is n.is r)
-
-pub two_rows : {h : ℕ} {e : Bool} {k y z : ℕ} → 0 < k → k < h → Nth e h k y → Nth e h (k - 1) z → y ≢ z
-two_rows {h} {e} {k} some in-h m n q =
-    let same : k ≡ k - 1 = nth_one e h k (k - 1) in-h (omega arith) (sym m.is ∙ q ∙ n.is) in omega arith
-
-pub rows_made_all : {w h : ℕ} {e : Bool} {u v : List ℕ} {k : ℕ} → RowsMade w h e u v k → h ≤ k → ColumnsRun w h e u v
-rows_made_all p l = record { size = p.size; edge = p.edge; ran = λ x j m i. p.ran x j m (omega arith) }

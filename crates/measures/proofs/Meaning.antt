@@ -1,19 +1,18 @@
 -- What the running numbers mean: on either kind of line each number comes of the one before it and
 -- of the crossing's own mark as a distance does, so every sheet holds its way's distances.
 use mathlib.Core.Path.{◌≡◌, refl, subst, ◌∙◌}
-use mathlib.Core.Bool.{Bool}
+use Rattle.measures.specs.declared.each.End.{End}
 use mathlib.Core.List.{List}
-use mathlib.Core.Logic.{inl, inr}
-use Prim.Native.Nat.{ℕ, suc, zero, ◌<◌}
+use Prim.Native.Nat.{ℕ, suc, zero, ◌*◌, ◌<◌}
+use lib.ListN.{length}
 use native.Mathlib.Omega.{arith}
 use native.Mathlib.Decide.{ℕ_discrete}
 use borrow.Author.Tests.{eq-eqb, ne_eqb}
-use Rattle.field.specs.Map.{no_distance, On, number, at}
+use Rattle.field.specs.Map.{Sides, no_distance, On, number, at}
 use Rattle.field.specs.Limits.{no_distance_is}
 use Rattle.field.specs.Distances.{Clear, DistanceSheet}
 use Rattle.field.specs.Workings.Sheet.{Marked, number_lt}
-use Rattle.sheets.specs.Promise.{Fits}
-use Rattle.measures.specs.Running.{nth, row_way, column_way, lead, onward, Own, OwnOf, Owned, OwnSheet, RowsRun, ColumnsRun}
+use Rattle.measures.specs.Running.{nth, row_way, column_way, lead, onward, OwnOf, Owned, RowsRun, ColumnsRun}
 use Rattle.measures.proofs.Ahead.{Onward, closed, lost, further}
 use Rattle.measures.proofs.Lines.{line_clear, row_line, column_line, nth_nth, nth_lt}
 
@@ -40,20 +39,13 @@ onward_onward {m} {o} {l} {r} own e = go (ℕ_discrete m 0) (ℕ_discrete l no_d
         some : m ≡ 0 → o ≡ 0 → ⊥
         some z q = omega (arith, own.free z, no_distance_is)
 
-module _ {w h : ℕ} {s u : List ℕ} (fits : Fits w h s) (own : Owned s u) where
+module _ {w h : ℕ} {s u : List ℕ} (sides : Sides w h) (size : length s ≡ h * w) (own : Owned s u) where
   -- What a crossing of the map has by itself.
   own_at : (a b : ℕ) → On w h a b → OwnOf (at s w a b) (at u w a b)
-  own_at a b o = own.each (number w a b) (omega (arith, number_lt w h a b o, fits.size))
-
-  pub own_sheet : OwnSheet w h u
-  own_sheet = record { fits = record { sides = fits.sides; size = own.size ∙ fits.size }; own = λ x y o. either (own_at x y o) (ℕ_discrete (at s w x y) 0) }
-    where
-      either : {m o : ℕ} → OwnOf m o → Dec (m ≡ 0) → Own o
-      either d (yes z) = inr (d.free z)
-      either d (no n) = inl (d.closed n)
+  own_at a b o = own.each (number w a b) (omega (arith, number_lt w h a b o, size))
 
   -- The rows' distances, from either end.
-  module _ {e : Bool} {v : List ℕ} (ran : RowsRun w h e u v) (y : ℕ) (in_y : y < h) where
+  module _ {e : End} {v : List ℕ} (ran : RowsRun w h e u v) (y : ℕ) (in_y : y < h) where
     abbrev found : ℕ → ℕ
     found k = at v w (nth e w k) y
 
@@ -63,14 +55,14 @@ module _ {w h : ℕ} {s u : List ℕ} (fits : Fits w h s) (own : Owned s u) wher
     row_clear : (x : ℕ) → x < w → Clear (Marked s w h) (row_way e) x y (at v w x y)
     row_clear x l =
         subst (λ (a : ℕ). Clear (Marked s w h) (row_way e) a y (at v w a y)) (nth_nth e w x l)
-        (line_clear fits.sides (row_line e w h y in_y) found steps (nth e w x) (nth_lt e w x l))
+        (line_clear sides (row_line e w h y in_y) found steps (nth e w x) (nth_lt e w x l))
 
-  pub rows_distances : {e : Bool} {v : List ℕ} → RowsRun w h e u v → DistanceSheet w h (Marked s w h) (row_way e) v
+  pub rows_distances : {e : End} {v : List ℕ} → RowsRun w h e u v → DistanceSheet w h (Marked s w h) (row_way e) v
   rows_distances ran =
-      record { size = ran.size ∙ own.size ∙ fits.size; distance = λ x y o. row_clear ran y o.in_y x o.in_x }
+      record { size = ran.size ∙ own.size ∙ size; distance = λ x y o. row_clear ran y o.in_y x o.in_x }
 
   -- The columns' distances.
-  module _ {e : Bool} {v : List ℕ} (ran : ColumnsRun w h e u v) (x : ℕ) (in_x : x < w) where
+  module _ {e : End} {v : List ℕ} (ran : ColumnsRun w h e u v) (x : ℕ) (in_x : x < w) where
     abbrev made : ℕ → ℕ
     made k = at v w x (nth e h k)
 
@@ -84,8 +76,8 @@ module _ {w h : ℕ} {s u : List ℕ} (fits : Fits w h s) (own : Owned s u) wher
     column_clear : (y : ℕ) → y < h → Clear (Marked s w h) (column_way e) x y (at v w x y)
     column_clear y l =
         subst (λ (b : ℕ). Clear (Marked s w h) (column_way e) x b (at v w x b)) (nth_nth e h y l)
-        (line_clear fits.sides (column_line e w h x in_x) made falls (nth e h y) (nth_lt e h y l))
+        (line_clear sides (column_line e w h x in_x) made falls (nth e h y) (nth_lt e h y l))
 
-  pub columns_distances : {e : Bool} {v : List ℕ} → ColumnsRun w h e u v → DistanceSheet w h (Marked s w h) (column_way e) v
+  pub columns_distances : {e : End} {v : List ℕ} → ColumnsRun w h e u v → DistanceSheet w h (Marked s w h) (column_way e) v
   columns_distances ran =
-      record { size = ran.size ∙ own.size ∙ fits.size; distance = λ x y o. column_clear ran x o.in_x y o.in_y }
+      record { size = ran.size ∙ own.size ∙ size; distance = λ x y o. column_clear ran x o.in_x y o.in_y }

@@ -2,25 +2,26 @@
 -- that follow have 0, and from there a number runs on. So each number is made of the one before it
 -- as a distance is. And row after row.
 use mathlib.Core.Path.{◌≡◌, refl, sym, subst, ap, ap₂, ◌∙◌}
-use mathlib.Core.Bool.{Bool}
+use Rattle.measures.specs.declared.each.End.{End}
 use mathlib.Core.List.{List}
 use mathlib.Core.Logic.{◌≢◌, inl, inr}
 use Prim.Native.Nat.{ℕ, suc, zero, ◌+◌, ◌-◌, ◌<◌, ◌≤◌}
 use native.Mathlib.Omega.{arith}
 use native.Mathlib.Decide.{dec_lt, ℕ_discrete}
 use lib.ListN.{length, get_or}
-use Rattle.field.specs.Map.{no_distance, On, number, at}
+use Rattle.field.specs.Map.{Sides, no_distance, On, number, at}
 use Rattle.field.specs.Limits.{distance_mark, no_distance_is}
-use Rattle.measures.specs.Running.{nth, on_to, placed, lead, run, counted, onward, Own, OnLine, Past, Met, Ran, RowOnward, RowRun, RowsRun}
-use Rattle.measures.proofs.Lines.{First, nth_lt, line_one, further_on, row_placed, row_other}
+use Rattle.sheets.specs.Promise.{Numbered}
+use Rattle.measures.specs.Running.{nth, Nth, on_to, placed, lead, run, counted, onward, Own, InRow, Past, Met, Ran, RowOnward, RowRun}
+use Rattle.measures.proofs.Lines.{First, OnLine, row_first, row_on, nth_lt, line_one, further_on, row_placed, row_other}
 use Rattle.measures.proofs.Runs.{run_le}
 use Rattle.measures.proofs.Steps.{far_fits, onward_none, onward_closed, counted_onward}
 
 -- Each number of a line is made of the one before it.
-record Onwards (e : Bool) (start n : ℕ) (u v : List ℕ) : Type 0 where
+record Onwards (e : End) (start n : ℕ) (u v : List ℕ) : Type 0 where
   pub made : (k : ℕ) → k < n → placed e start v k ≡ onward (lead (placed e start v) k) (placed e start u k)
 
-module _ {e : Bool} {start n a b : ℕ} {u : List ℕ} (on : OnLine e start n u) (own : (k : ℕ) → k < n → Own (placed e start u k))
+module _ {e : End} {start n a b : ℕ} {u : List ℕ} (on : OnLine e start n u) (own : (k : ℕ) → k < n → Own (placed e start u k))
     (first : Past no_distance e start 0 n u a) (met : Met e start a n u b) where
   -- Up to the first closed crossing there is none.
   bare : (k : ℕ) → k < b → placed e start u k ≡ no_distance
@@ -88,7 +89,7 @@ module _ {e : Bool} {start n a b : ℕ} {u : List ℕ} (on : OnLine e start n u)
     each k l = go (dec_lt k b) (dec_lt k c)
       where
         few : (i : ℕ) → k ≡ c + i → run counted 0 rest i < no_distance
-        few i z = omega (arith, run_le 0 rest i, on.short, far_fits)
+        few i z = omega (arith, run_le 0 rest i, on.sound.short, far_fits)
 
         on_from : (i : ℕ) → k ≡ c + i → Own (placed e start u k) → placed e start v k ≡ onward (lead (placed e start v) k) (placed e start u k)
         on_from i z (inl f) =
@@ -97,7 +98,7 @@ module _ {e : Bool} {start n a b : ℕ} {u : List ℕ} (on : OnLine e start n u)
             counts k i z l ∙ counted_onward (inr f) (few i z) ∙ ap (λ (m : ℕ). onward m (placed e start u k)) (sym (before k i z l free))
           where
             free : placed e start u k ≢ 0
-            free g = omega (arith, f, g, far_fits, on.short)
+            free g = omega (arith, f, g, far_fits, on.sound.short)
 
         go : Dec (k < b) → Dec (k < c) → placed e start v k ≡ onward (lead (placed e start v) k) (placed e start u k)
         go (yes m) d = bare_onward v (λ j i. keeps j (omega (arith, shut.least))) k m
@@ -108,7 +109,7 @@ module _ {e : Bool} {start n a b : ℕ} {u : List ℕ} (on : OnLine e start n u)
     onwards = record { made = λ k l. each k l }
 
 -- The same of a row, told of its crossings.
-row_onward : {w : ℕ} {e : Bool} {y start : ℕ} {u v : List ℕ} → First e w y start → Onwards e start w u v → RowOnward w e y u v
+row_onward : {w : ℕ} {e : End} {y start : ℕ} {u v : List ℕ} → First e w y start → Onwards e start w u v → RowOnward w e y u v
 row_onward {w} {e} {y} {start} {u} {v} f p =
     record { made = λ k l. sym (row_placed v k f l) ∙ p.made k l ∙ ap₂ onward (before k l) (row_placed u k f l) }
   where
@@ -117,13 +118,19 @@ row_onward {w} {e} {y} {start} {u} {v} f p =
     before (suc k) l = row_placed v k f (omega arith)
 
 -- A row with nothing closed, and one with something.
-module _ {w h : ℕ} {e : Bool} {y start a b : ℕ} {u : List ℕ} (in_y : y < h) (f : First e w y start) (on : OnLine e start w u)
-    (own : (x : ℕ) → x < w → Own (at u w x y)) (passed : Past distance_mark e start 0 w u a) (met : Met e start a w u b) where
+module _ {w h : ℕ} {e : End} {y x start a b : ℕ} {u : List ℕ} (sides : Sides w h) (row : InRow w h y u) (n : Numbered w h x y start)
+    (p : Nth e w 0 x) (passed : Past distance_mark e start 0 w u a) (met : Met e start a w u b) where
+  f : First e w y start
+  f = row_first n p
+
+  on : OnLine e start w u
+  on = row_on u sides row.room row.in_y f n.small
+
   first : Past no_distance e start 0 w u a
   first = subst (λ (m : ℕ). Past m e start 0 w u a) (sym no_distance_is) passed
 
   by_itself : (k : ℕ) → k < w → Own (placed e start u k)
-  by_itself k l = subst Own (sym (row_placed u k f l)) (own (nth e w k) (nth_lt e w k l))
+  by_itself k l = subst Own (sym (row_placed u k f l)) (row.own (nth e w k) (nth_lt e w k l))
 
   pub row_bare : b ≡ w → RowRun w h e y u u
   row_bare z = record { size = refl; ran = row_onward f (all_bare on by_itself first met z); rest = λ a b o d. refl }
@@ -133,19 +140,16 @@ module _ {w h : ℕ} {e : Bool} {y start a b : ℕ} {u : List ℕ} (in_y : y < h
       record {
         size = ran.size;
         ran = row_onward f (onwards on by_itself first met some shut ran);
-        rest = λ i j o d. ran.rest (number w i j) (λ k l g. row_other f in_y o d (c + k) (omega arith) (g ∙ further_on on c k));
+        rest = λ i j o d. ran.rest (number w i j) (λ k l g. row_other f row.in_y o d (c + k) (omega arith) (g ∙ further_on on c k));
       }
 
 -- The rows below y passed.
-pub record RowsPassed (w h : ℕ) (e : Bool) (u v : List ℕ) (y : ℕ) : Type 0 where
+pub record RowsPassed (w h : ℕ) (e : End) (u v : List ℕ) (y : ℕ) : Type 0 where
   pub size : length v ≡ length u
   pub ran : (b : ℕ) → b < y → RowOnward w e b u v
   pub ahead : (a b : ℕ) → On w h a b → y ≤ b → at v w a b ≡ at u w a b
 
-pub rows_none : {w h : ℕ} {e : Bool} {u : List ℕ} → RowsPassed w h e u u 0
-rows_none = record { size = refl; ran = λ b m. absurd (omega arith); ahead = λ a b o l. refl }
-
-pub rows_more : {w h : ℕ} {e : Bool} {u v z : List ℕ} {y : ℕ} → y < h → RowsPassed w h e u v y → RowRun w h e y v z → RowsPassed w h e u z (y + 1)
+pub rows_more : {w h : ℕ} {e : End} {u v z : List ℕ} {y : ℕ} → y < h → RowsPassed w h e u v y → RowRun w h e y v z → RowsPassed w h e u z (y + 1)
 rows_more {w} {h} {e} {u} {v} {z} {y} in_y p q =
     record {
       size = q.size ∙ p.size;
@@ -174,6 +178,3 @@ rows_more {w} {h} {e} {u} {v} {z} {y} in_y p q =
           made = λ k l. kept b k (omega arith) d l ∙ (p.ran b (omega arith)).made k l
               ∙ ap (λ (n : ℕ). onward n (at u w (nth e w k) b)) (before b k (omega arith) d l);
         }
-
-pub rows_all : {w h : ℕ} {e : Bool} {u v : List ℕ} {y : ℕ} → RowsPassed w h e u v y → h ≤ y → RowsRun w h e u v
-rows_all p l = record { size = p.size; ran = λ b m. p.ran b (omega arith) }

@@ -1,7 +1,7 @@
 -- A running number along a line, place by place. What was passed keeps its number, and what is still
 -- to come keeps what it had.
 use mathlib.Core.Path.{◌≡◌, refl, sym, subst, ap, ap₂, ◌∙◌}
-use mathlib.Core.Bool.{Bool}
+use Rattle.measures.specs.declared.each.End.{End}
 use mathlib.Core.List.{List}
 use mathlib.Core.Logic.{◌≢◌}
 use Prim.Native.Nat.{ℕ, suc, zero, ◌+◌, ◌-◌, ◌<◌, ◌≤◌}
@@ -11,8 +11,8 @@ use native.Mathlib.Decide.{ℕ_discrete}
 use lib.Bits.{and_le_l}
 use lib.ListN.{length, get_or, set, length-set}
 use lib.Seq.{get_or-set_same, get_or-set_other}
-use Rattle.measures.specs.Running.{on_to, placed, run, counted, OnLine, OnLineFrom, Ran}
-use Rattle.measures.proofs.Lines.{line_one, line_from, further_on}
+use Rattle.measures.specs.Running.{on_to, placed, run, counted}
+use Rattle.measures.proofs.Lines.{OnLine, line_one, line_from, further_on}
 
 -- It grows by one a place at most.
 pub run_le : (c : ℕ) (f : ℕ → ℕ) (k : ℕ) → run counted c f k ≤ c + k
@@ -21,18 +21,18 @@ run_le c f zero = omega arith
 run_le c f (suc k) = omega (arith, and_le_l (run counted c f k + 1) (f k), run_le c f k)
 
 -- A line, k places passed.
-pub record Running (e : Bool) (start n : ℕ) (u v : List ℕ) (last k : ℕ) : Type 0 where
+pub record Running (e : End) (start n : ℕ) (u v : List ℕ) (last k : ℕ) : Type 0 where
   pub size : length v ≡ length u
   pub now_at : last ≡ run counted 0 (placed e start u) k
   pub ran : (j : ℕ) → j < k → placed e start v j ≡ run counted 0 (placed e start u) (suc j)
   pub ahead : (j : ℕ) → k ≤ j → j < n → placed e start v j ≡ placed e start u j
   pub rest : (i : ℕ) → ((j : ℕ) → j < n → i ≢ on_to e start j) → get_or v i 0 ≡ get_or u i 0
 
-pub running_none : {e : Bool} {start n : ℕ} {u : List ℕ} → Running e start n u u 0 0
+pub running_none : {e : End} {start n : ℕ} {u : List ℕ} → Running e start n u u 0 0
 unfolding run
 running_none = record { size = refl; now_at = refl; ran = λ j l. absurd (omega arith); ahead = λ j l m. refl; rest = λ i d. refl }
 
-module _ {e : Bool} {start n : ℕ} {u v : List ℕ} {last k : ℕ} (on : OnLine e start n u) (r : Running e start n u v last k) where
+module _ {e : End} {start n : ℕ} {u v : List ℕ} {last k : ℕ} (on : OnLine e start n u) (r : Running e start n u v last k) where
   -- The running number fits the sheet.
   pub running_le : last ≤ k
   running_le = omega (arith, r.now_at, run_le 0 (placed e start u) k)
@@ -69,28 +69,23 @@ module _ {e : Bool} {start n : ℕ} {u v : List ℕ} {last k : ℕ} (on : OnLine
           rest = λ i d. get_or-set_other v (on_to e start k) i q 0 (d k p) ∙ r.rest i d;
         }
 
-pub running_all : {e : Bool} {start n : ℕ} {u v : List ℕ} {last k : ℕ} → Running e start n u v last k → n ≤ k → Ran e start n u v
-running_all r l = record { size = r.size; ran = λ j m. r.ran j (omega arith); rest = r.rest }
-
 -- The same from place `from` of a longer line on, told of that line's places.
-pub record RunningFrom (e : Bool) (start from n : ℕ) (u v : List ℕ) (last k : ℕ) : Type 0 where
+pub record RunningFrom (e : End) (start from n : ℕ) (u v : List ℕ) (last k : ℕ) : Type 0 where
   pub least : from ≤ k
   pub running : Running e (on_to e start from) (n - from) u v last (k - from)
 
-pub from_none : {e : Bool} {start from n : ℕ} {u : List ℕ} → RunningFrom e start from n u u 0 from
+pub from_none : {e : End} {start from n : ℕ} {u : List ℕ} → RunningFrom e start from n u u 0 from
 from_none {e} {start} {from} {n} {u} =
     let z : 0 ≡ from - from = omega arith in
     record { least = omega arith; running = subst (Running e (on_to e start from) (n - from) u u 0) z running_none }
 
-module _ {e : Bool} {start from n : ℕ} {u v : List ℕ} {last k : ℕ} (on : OnLineFrom e start from n u) (r : RunningFrom e start from n u v last k) where
+module _ {e : End} {start from n : ℕ} {u v : List ℕ} {last k : ℕ} (on : OnLine e start n u) (within : from ≤ n)
+    (r : RunningFrom e start from n u v last k) where
   here : on_to e (on_to e start from) (k - from) ≡ on_to e start k
-  here = let z : from + (k - from) ≡ k = omega (arith, r.least) in further_on on.line from (k - from) ∙ ap (on_to e start) z
+  here = let z : from + (k - from) ≡ k = omega (arith, r.least) in further_on on from (k - from) ∙ ap (on_to e start) z
 
   pub from_le : last ≤ k
-  from_le = omega (arith, running_le (line_from on.line from on.within) r.running)
-
-  pub from_in : k < n → on_to e start k < length v
-  from_in p = omega (arith, on.line.inside k p, r.running.size)
+  from_le = omega (arith, running_le (line_from on from within) r.running)
 
   pub from_more : {i q : ℕ} → k < n → i ≡ on_to e start k → q ≡ counted last (get_or v i 0) → RunningFrom e start from n u (set v i q) q (k + 1)
   from_more {i} {q} p is made =
@@ -100,9 +95,5 @@ module _ {e : Bool} {start from n : ℕ} {u v : List ℕ} {last k : ℕ} (on : O
         least = omega (arith, r.least);
         running = subst (λ (j : ℕ). Running e (on_to e start from) (n - from) u (set v i q) q j) z
             (subst (λ (j : ℕ). Running e (on_to e start from) (n - from) u (set v j q) q (k - from + 1)) (sym at)
-            (running_more (line_from on.line from on.within) r.running (omega (arith, r.least)) q (made ∙ ap (λ (j : ℕ). counted last (get_or v j 0)) at)));
+            (running_more (line_from on from within) r.running (omega (arith, r.least)) q (made ∙ ap (λ (j : ℕ). counted last (get_or v j 0)) at)));
       }
-
-pub from_all : {e : Bool} {start from n : ℕ} {u v : List ℕ} {last k : ℕ} → RunningFrom e start from n u v last k → n ≤ k
-    → Ran e (on_to e start from) (n - from) u v
-from_all r l = running_all r.running (omega arith)

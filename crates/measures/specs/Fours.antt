@@ -5,11 +5,6 @@ use Rattle.std.specs.Prelude.{◌≡◌, List, ℕ, ◌+◌, ◌*◌, ◌<◌, g
 abbrev pub Sixteen : ℕ → Type 0
 Sixteen n = n < 0x1_0000
 
--- One number.
-pub record Looked (i : ℕ) (s : List ℕ) (r : ℕ) : Type 0 where
-  pub is : r ≡ get_or s i 0
-  pub most : Sixteen r
-
 -- Four, as the digits of one number, the lowest first.
 abbrev pub joined : (a b c d : ℕ) → ℕ
 joined a b c d = a + 0x1_0000 * b + 0x1_0000_0000 * c + 0x1_0000_0000_0000 * d

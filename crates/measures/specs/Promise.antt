@@ -3,11 +3,9 @@
 use Rattle.std.specs.Prelude.{◌≡◌, List, ℕ, ◌*◌, length}
 use Rattle.field.specs.Distances.{DistanceSheet, eastward, southward, westward, northward}
 use Rattle.field.specs.Workings.Sheet.{Marked}
-use Rattle.sheets.specs.Promise.{Fits}
 
--- A sheet of the closed crossings and four sheets of the map's size.
-pub record SheetsLent (w h : ℕ) (s e d f n : List ℕ) : Type 0 where
-  pub fits : Fits w h s
+-- Four sheets of the map's size.
+pub record SheetsLent (w h : ℕ) (e d f n : List ℕ) : Type 0 where
   pub east : length e ≡ h * w
   pub south : length d ≡ h * w
   pub west : length f ≡ h * w

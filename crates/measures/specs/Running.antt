@@ -1,37 +1,40 @@
 -- What the functions behind `measure` promise one another. A line is a row or a column, its places
 -- counted from the edge that its way leads to, and a running number goes over it from there.
-use Rattle.std.specs.Prelude.{◌≡◌, Bool, true, false, cond, List, ◌≢◌, ◌⊎◌, ℕ, suc, zero, ◌+◌, ◌*◌, ◌-◌, ◌^◌, ◌<◌, ◌≤◌, eqb, length, get_or}
+use Rattle.std.specs.Prelude.{◌≡◌, cond, List, ◌≢◌, ◌⊎◌, ℕ, suc, zero, ◌+◌, ◌*◌, ◌-◌, ◌^◌, ◌<◌, ◌≤◌, eqb, length, get_or}
 use Rattle.std.specs.Int.Bits.{bit_and}
 use Rattle.field.specs.Map.{side, On, at, no_distance}
 use Rattle.field.specs.Distances.{Way, eastward, southward, westward, northward}
-use Rattle.sheets.specs.Promise.{Fits}
+use Rattle.measures.specs.declared.each.End.{End}
+use Rattle.measures.specs.declared.each.End.TheVariants.{High, Low}
 
 -- Place k of n, counted from the high end or from the low one.
-abbrev pub nth : Bool → ℕ → ℕ → ℕ
-nth true n k = n - 1 - k
-nth false n k = k
+abbrev pub nth : End → ℕ → ℕ → ℕ
+nth High n k = n - 1 - k
+nth Low n k = k
 
-pub record Nth (e : Bool) (n k r : ℕ) : Type 0 where
+pub record Nth (e : End) (n k r : ℕ) : Type 0 where
   pub is : r ≡ nth e n k
   pub below : r < n
 
 -- The number k further from that end.
-abbrev pub on_to : Bool → ℕ → ℕ → ℕ
-on_to true n k = n - k
-on_to false n k = n + k
+abbrev pub on_to : End → ℕ → ℕ → ℕ
+on_to High n k = n - k
+on_to Low n k = n + k
 
-pub record Room (e : Bool) (n k : ℕ) : Type 0 where
-  pub below : e ≡ true → k ≤ n
-  pub few : n + k < 2 ^ 64
+-- A line of n places counted from that end, no longer than a side: its numbers are numbers.
+pub record Sound (e : End) (start n : ℕ) : Type 0 where
+  pub below : e ≡ High → n ≤ start + 1
+  pub short : n ≤ side
+  pub few : start + n < 2 ^ 64
 
 -- The way that leads to a row's high end or to its low one, and so for a column.
-abbrev pub row_way : Bool → Way
-row_way true = eastward
-row_way false = westward
+abbrev pub row_way : End → Way
+row_way High = eastward
+row_way Low = westward
 
-abbrev pub column_way : Bool → Way
-column_way true = northward
-column_way false = southward
+abbrev pub column_way : End → Way
+column_way High = northward
+column_way Low = southward
 
 -- A running number after k places: it starts as c, and each place makes the next of the last one
 -- and of what the place itself has, f.
@@ -59,69 +62,57 @@ pub record Owned (s u : List ℕ) : Type 0 where
   pub size : length u ≡ length s
   pub each : (i : ℕ) → i < length s → OwnOf (get_or s i 0) (get_or u i 0)
 
--- A sheet of the closed crossings, and a sheet of the map's size to write on.
-pub record Ready (w h : ℕ) (s u : List ℕ) : Type 0 where
-  pub fits : Fits w h s
-  pub room : length u ≡ h * w
-
 -- What a crossing can have by itself.
 abbrev pub Own : ℕ → Type 0
 Own n = (n ≡ 0) ⊎ (n ≡ no_distance)
 
 -- A sheet of the map on which every crossing has what it has by itself.
 pub record OwnSheet (w h : ℕ) (u : List ℕ) : Type 0 where
-  pub fits : Fits w h u
+  pub room : length u ≡ h * w
   pub own : (x y : ℕ) → On w h x y → Own (at u w x y)
 
 -- A sheet of the map, and a row on which every crossing has what it has by itself.
 pub record InRow (w h y : ℕ) (u : List ℕ) : Type 0 where
-  pub fits : Fits w h u
+  pub room : length u ≡ h * w
   pub in_y : y < h
   pub own : (x : ℕ) → x < w → Own (at u w x y)
 
 -- A sheet of the map and two rows.
 pub record Beside (w h y z : ℕ) (u : List ℕ) : Type 0 where
-  pub fits : Fits w h u
+  pub room : length u ≡ h * w
   pub in_y : y < h
   pub in_z : z < h
   pub other : y ≢ z
 
 -- What place k of a line has on sheet u. The line's first place has the number `start`.
-abbrev pub placed : Bool → ℕ → List ℕ → ℕ → ℕ
+abbrev pub placed : End → ℕ → List ℕ → ℕ → ℕ
 placed e start u k = get_or u (on_to e start k) 0
 
--- A line of n places on a sheet, no longer than a side.
-pub record OnLine (e : Bool) (start n : ℕ) (u : List ℕ) : Type 0 where
-  pub below : e ≡ true → n ≤ start + 1
+-- A line on a sheet, with one of its places, or the end behind them.
+pub record OnLineFrom (e : End) (start from n : ℕ) (u : List ℕ) : Type 0 where
   pub inside : (k : ℕ) → k < n → on_to e start k < length u
-  pub short : n ≤ side
-  pub few : start + n < 2 ^ 64
-
--- The same with one of its places, or the end behind them.
-pub record OnLineFrom (e : Bool) (start from n : ℕ) (u : List ℕ) : Type 0 where
-  pub line : OnLine e start n u
   pub within : from ≤ n
 
 -- The lowest number of the four places from place k on.
-abbrev pub lowest_of : Bool → ℕ → ℕ → ℕ
-lowest_of true start k = start - (k + 3)
-lowest_of false start k = start + k
+abbrev pub lowest_of : End → ℕ → ℕ → ℕ
+lowest_of High start k = start - (k + 3)
+lowest_of Low start k = start + k
 
 -- From one place on, up to place r, all have m.
-pub record Past (m : ℕ) (e : Bool) (start from n : ℕ) (u : List ℕ) (r : ℕ) : Type 0 where
+pub record Past (m : ℕ) (e : End) (start from n : ℕ) (u : List ℕ) (r : ℕ) : Type 0 where
   pub least : from ≤ r
   pub most : r ≤ n
   pub same : (k : ℕ) → from ≤ k → k < r → placed e start u k ≡ m
 
 -- From one place on, r is the first that is closed, or the end.
-pub record Met (e : Bool) (start from n : ℕ) (u : List ℕ) (r : ℕ) : Type 0 where
+pub record Met (e : End) (start from n : ℕ) (u : List ℕ) (r : ℕ) : Type 0 where
   pub least : from ≤ r
   pub most : r ≤ n
   pub free : (k : ℕ) → from ≤ k → k < r → placed e start u k ≢ 0
   pub closed : r < n → placed e start u r ≡ 0
 
 -- From sheet u to sheet v a number runs along a line, from 0 on, and nothing else changes.
-pub record Ran (e : Bool) (start n : ℕ) (u v : List ℕ) : Type 0 where
+pub record Ran (e : End) (start n : ℕ) (u v : List ℕ) : Type 0 where
   pub size : length v ≡ length u
   pub ran : (k : ℕ) → k < n → placed e start v k ≡ run counted 0 (placed e start u) (suc k)
   pub rest : (i : ℕ) → ((k : ℕ) → k < n → i ≢ on_to e start k) → get_or v i 0 ≡ get_or u i 0
@@ -133,17 +124,17 @@ lead f (suc k) = f k
 
 -- On sheet v each number of row y is made of the one before it and of what the crossing has on
 -- sheet u.
-pub record RowOnward (w : ℕ) (e : Bool) (y : ℕ) (u v : List ℕ) : Type 0 where
+pub record RowOnward (w : ℕ) (e : End) (y : ℕ) (u v : List ℕ) : Type 0 where
   pub made : (k : ℕ) → k < w → at v w (nth e w k) y ≡ onward (lead (λ j. at v w (nth e w j) y) k) (at u w (nth e w k) y)
 
 -- From sheet u to sheet v that is done along row y, and no other row changes.
-pub record RowRun (w h : ℕ) (e : Bool) (y : ℕ) (u v : List ℕ) : Type 0 where
+pub record RowRun (w h : ℕ) (e : End) (y : ℕ) (u v : List ℕ) : Type 0 where
   pub size : length v ≡ length u
   pub ran : RowOnward w e y u v
   pub rest : (a b : ℕ) → On w h a b → b ≢ y → at v w a b ≡ at u w a b
 
 -- The same along every row.
-pub record RowsRun (w h : ℕ) (e : Bool) (u v : List ℕ) : Type 0 where
+pub record RowsRun (w h : ℕ) (e : End) (u v : List ℕ) : Type 0 where
   pub size : length v ≡ length u
   pub ran : (y : ℕ) → y < h → RowOnward w e y u v
 
@@ -155,7 +146,7 @@ pub record RowMade (w h y z : ℕ) (u v : List ℕ) : Type 0 where
 
 -- From sheet u to sheet v a running number goes along every column; the edge's own numbers stand
 -- already.
-pub record ColumnsRun (w h : ℕ) (e : Bool) (u v : List ℕ) : Type 0 where
+pub record ColumnsRun (w h : ℕ) (e : End) (u v : List ℕ) : Type 0 where
   pub size : length v ≡ length u
   pub edge : (x : ℕ) → x < w → at v w x (nth e h 0) ≡ at u w x (nth e h 0)
   pub ran : (x k : ℕ) → x < w → suc k < h → at v w x (nth e h (suc k)) ≡ onward (at v w x (nth e h k)) (at u w x (nth e h (suc k)))

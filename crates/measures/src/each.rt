@@ -1,40 +1,35 @@
-// What is done to every crossing by itself, whatever stands beside it: a compiler takes these loops
+// What is done to every crossing by itself, whatever stands beside it: a compiler takes this loop
 // many crossings at a time.
 ghost use Rattle.std.specs.Prelude.{◌≡◌, ◌<◌, length};
-ghost use Rattle.measures.specs.Running.{Nth, Room, on_to, OwnOf, Owned};
+ghost use Rattle.measures.specs.Running.{Nth, OwnOf, Owned};
 
 use field::NO_DISTANCE;
 
-// Place k of n, counted from the high end or from the low one.
-pub(crate) fn place(high: bool, n: usize, k: usize) -> usize
-    requires { k < n }
-    ensures { Nth high n k result }
-{
-    if high {
-        return n - 1 - k;
-    }
-    k
+// The end that a line's places are counted from.
+#[derive(Clone, Copy, Debug, PartialEq, Eq)]
+pub(crate) enum End {
+    High,
+    Low,
 }
 
-// The number k places further from the end that a line is counted from.
-pub(crate) fn further(high: bool, start: usize, k: usize) -> usize
-    requires { Room high start k }
-    ensures { result ≡ on_to high start k }
-{
-    if high {
-        return start - k;
+impl End {
+    // Place k of n, counted from this end.
+    pub(crate) fn place(self, n: usize, k: usize) -> usize
+        requires { k < n }
+        ensures { Nth self n k result }
+    {
+        match self {
+            End::High => n - 1 - k,
+            End::Low => k,
+        }
     }
-    start + k
 }
 
 // What a crossing has by itself: 0 where it is closed, none elsewhere.
 fn own_of(mark: u8) -> u16
     ensures { OwnOf mark result }
 {
-    if mark == 0 {
-        return NO_DISTANCE;
-    }
-    0
+    if mark == 0 { NO_DISTANCE } else { 0 }
 }
 
 // The same for every crossing.
@@ -42,9 +37,7 @@ pub(crate) fn own(s: &[u8], out: &mut [u16])
     requires { length out.old ≡ length s.now }
     ensures { Owned s.now out.new }
 {
-    let mut i = 0;
-    while i < out.len() {
+    for i in 0..s.len() {
         out[i] = own_of(s[i]);
-        i += 1;
     }
 }

@@ -8,7 +8,7 @@ use Prim.Native.Nat.{ℕ, suc, ◌+◌, ◌-◌, ◌<◌, ◌≤◌}
 use native.Mathlib.Omega.{arith}
 use lib.ListN.{length, get_or, take, drop, length-take, length-drop}
 use lib.Seq.{take_all, drop-length, take-suc, take-append-le, drop-append-le, take-append-add, drop-append-add, drop-drop, get_or-take, length-take-le}
-use Rattle.field.specs.Map.{On, OnMap, number, dist}
+use Rattle.field.specs.Map.{Sides, On, OnMap, number, dist}
 use Rattle.field.specs.Labels.{Open}
 use Rattle.field.specs.Drives.{ShortestDrive, HasDrive}
 use Rattle.field.specs.Workings.Sheet.{Marked}
@@ -20,7 +20,7 @@ use Rattle.field.proofs.Geometry.Meeting as Meeting
 use Rattle.meetings.specs.Promise.{MayJoin}
 use Rattle.meetings.specs.Parts.{MayGo, Gone, MayGoBy}
 
-module _ {w h : ℕ} {s g : List ℕ} {sx sy dx dy x y : ℕ} (k : MayJoin w h s g sx sy dx dy) (column : OpenColumn w h (Marked s w h) sx sy dx dy x)
+module _ {w h : ℕ} (sides : Sides w h) {s g : List ℕ} {sx sy dx dy x y : ℕ} (k : MayJoin w h s g sx sy dx dy) (column : OpenColumn w h (Marked s w h) sx sy dx dy x)
     (row : OpenRow w h (Marked s w h) sx sy dx dy y) where
   abbrev C : ℕ → ℕ → Type 0
   C = Marked s w h
@@ -36,16 +36,16 @@ module _ {w h : ℕ} {s g : List ℕ} {sx sy dx dy x y : ℕ} (k : MayJoin w h s
 
   pub whole_drive : HasDrive w h C sx sy dx dy
   whole_drive =
-      Meeting.lines_drive w h k.may.sides C on_map k.stable (marked_dec s w h) sx sy dx dy from_open to_open
+      Meeting.lines_drive w h sides C on_map k.stable (marked_dec s w h) sx sy dx dy from_open to_open
       (record { column = x; row = y; column_open = column; row_open = row })
 
   first_drive : HasDrive w h C sx sy x y
-  first_drive = Meeting.meeting_drive w h k.may.sides C on_map k.stable (marked_dec s w h) sx sy dx dy x y column row from_open
+  first_drive = Meeting.meeting_drive w h sides C on_map k.stable (marked_dec s w h) sx sy dx dy x y column row from_open
 
   second_drive : HasDrive w h C x y dx dy
-  second_drive = Meeting.meeting_drive_end w h k.may.sides C on_map k.stable (marked_dec s w h) sx sy dx dy x y column row to_open
+  second_drive = Meeting.meeting_drive_end w h sides C on_map k.stable (marked_dec s w h) sx sy dx dy x y column row to_open
 
-module _ {w h : ℕ} {s g : List ℕ} {sx sy dx dy x y : ℕ} {route : List ℕ} (k : MayGoBy w h s g sx sy dx dy x y route) where
+module _ {w h : ℕ} {s g : List ℕ} {sx sy dx dy x y : ℕ} {route : List ℕ} (sides : Sides w h) (k : MayGoBy w h s g sx sy dx dy x y route) where
   met_on : On w h x y
   met_on = (k.column.throughout y k.row.between).on
 
@@ -57,8 +57,8 @@ module _ {w h : ℕ} {s g : List ℕ} {sx sy dx dy x y : ℕ} {route : List ℕ}
   first_may =
       let m = k.may.may in
       record {
-        may = record { sides = m.sides; size = m.size; region = m.region; from = m.from; to = met_on };
-        some = first_drive k.may k.column k.row;
+        may = record { region = m.region; from = m.from; to = met_on };
+        some = first_drive sides k.may k.column k.row;
         room = omega (arith, k.room, direct);
       }
 
@@ -67,14 +67,14 @@ module _ {w h : ℕ} {s g : List ℕ} {sx sy dx dy x y : ℕ} {route : List ℕ}
     second_may l =
         let m = k.may.may in
         record {
-          may = record { sides = m.sides; size = m.size; region = a.sheet.size; from = met_on; to = m.to };
-          some = second_drive k.may k.column k.row;
+          may = record { region = a.sheet.size; from = met_on; to = m.to };
+          some = second_drive sides k.may k.column k.row;
           room = omega (arith, k.room, direct);
         }
 
     -- The first part's list, with the meeting crossing at its end.
     first_shortest : ShortestDrive w h (Marked s w h) sx sy x y (take (dist sx sy x y + 1) route₁)
-    first_shortest = driven_shortest w h (Marked s w h) sx sy x y (first_drive k.may k.column k.row) a.driven
+    first_shortest = driven_shortest w h (Marked s w h) sx sy x y (first_drive sides k.may k.column k.row) a.driven
 
     module _ {j : ℕ} (e : j ≡ dist sx sy x y) where
       pub meeting_room : j < length route₁
@@ -95,7 +95,7 @@ module _ {w h : ℕ} {s g : List ℕ} {sx sy dx dy x y : ℕ} {route : List ℕ}
         onward = drop 1 (take (dist x y dx dy + 1) part)
 
         second_shortest : ShortestDrive w h (Marked s w h) x y dx dy (take (dist x y dx dy + 1) part)
-        second_shortest = driven_shortest w h (Marked s w h) x y dx dy (second_drive k.may k.column k.row) b.driven
+        second_shortest = driven_shortest w h (Marked s w h) x y dx dy (second_drive sides k.may k.column k.row) b.driven
 
         second_list : take (dist x y dx dy + 1) part ≡ number w x y ∷ onward
         second_list = drive_head w h (Marked s w h) second_shortest.drive

@@ -8,15 +8,16 @@ use Prim.Native.Nat.{ℕ, ◌+◌, ◌*◌, ◌-◌, ◌<◌, ◌≤◌}
 use native.Mathlib.Omega.{arith}
 use native.Mathlib.Decide.{dec_le}
 use native.Mathlib.Nat.{add-mul}
-use lib.ListN.{get_or}
+use lib.ListN.{length, get_or}
+use Rattle.std.specs.Prelude.{None}
 use Rattle.field.specs.Map.{On, number}
 use Rattle.field.specs.Labels.{Open}
-use Rattle.field.specs.CrossingLines.{OpenColumn, OpenRow}
+use Rattle.field.specs.CrossingLines.{OpenColumn, OpenRow, Lines, HasLines}
 use Rattle.field.specs.Workings.Sheet.{Marked, number_lt}
 use Rattle.field.specs.Geometry.Shapes.{Between}
 use Rattle.meetings.specs.declared.search.Span.{Span}
-use Rattle.meetings.specs.Promise.{MayMeet}
-use Rattle.meetings.specs.Search.{SpanOf, Bare, LaidOut, FirstBare}
+use Rattle.regions.specs.Promise.{Ends}
+use Rattle.meetings.specs.Search.{SpanOf, Bare, LaidOut, FirstAt, FirstBare}
 
 -- OpenLine p is open throughout.
 abbrev OpenLine : ℕ → ℕ → ℕ → ℕ → (ℕ → ℕ → Type 0) → ℕ → Type 0
@@ -35,10 +36,10 @@ module _ (s : List ℕ) (i across along : ℕ) {a b c d : ℕ} {u v : Span} (f :
   line_bare : (j : ℕ) → j < u.many → OpenLine a b c d Q (u.low + j) → Bare s (i + j * across) along v.many
   line_bare j m t l k = (tells j l m k).1 (t.1 (v.low + l) (omega (arith, g.low, g.many)))
 
-  module _ {r : ℕ} (F : FirstBare s i across along u.many v.many r) where
-    -- The line found is open, and no open line comes before it.
-    pub line_there : r < u.many → OpenLine a b c d Q (u.low + r)
-    line_there l = bare_line r l (F.there l)
+  -- The line found is open, and no open line comes before it.
+  module _ {r : ℕ} (F : FirstAt s i across along u.many v.many r) where
+    pub line_there : OpenLine a b c d Q (u.low + r)
+    line_there = bare_line r F.below F.there
 
     pub line_first : (p : ℕ) → OpenLine a b c d Q p → u.low + r ≤ p
     line_first p t = go (dec_le (u.low + r) p)
@@ -48,11 +49,14 @@ module _ (s : List ℕ) (i across along : ℕ) {a b c d : ℕ} {u v : Span} (f :
         go (no l) =
             let k : p - u.low < r = omega (arith, f.low, t.0) in
             let e : p ≡ u.low + (p - u.low) = omega (arith, f.low, t.0) in
-            absurd (F.before (p - u.low) k (line_bare (p - u.low) (omega (arith, F.most)) (rw e at t)))
+            absurd (F.before (p - u.low) k (line_bare (p - u.low) (omega (arith, F.below)) (rw e at t)))
 
-    -- Where none is found there is no open line.
-    pub line_none : u.many ≤ r → (p : ℕ) → ¬ OpenLine a b c d Q p
-    line_none l p t = omega (arith, line_first p t, f.many, t.0)
+  -- Where none is found there is no open line.
+  pub line_none : ((j : ℕ) → j < u.many → ¬ Bare s (i + j * across) along v.many) → (p : ℕ) → ¬ OpenLine a b c d Q p
+  line_none F p t =
+      let k : p - u.low < u.many = omega (arith, f.low, f.many, t.0) in
+      let e : p ≡ u.low + (p - u.low) = omega (arith, f.low, t.0) in
+      F (p - u.low) k (line_bare (p - u.low) k (rw e at t))
 
 -- A crossing is open where the sheet has no mark.
 unmarked_open : {w h x y n : ℕ} {s : List ℕ} → On w h x y → n ≡ number w x y → (get_or s n 0 ≡ 0 ↔ Open w h (Marked s w h) x y)
@@ -61,8 +65,7 @@ unmarked_open {w} {h} {x} {y} {n} {s} o e =
     (λ z. record { on = o; free = λ m. omega (arith, m.mark) }, λ k. let b : ¬ (0 < get_or s (number w x y) 0) = λ m. k.free (record { on = o; mark = m }) in omega arith)
 
 -- The rectangle that s and d span.
-module _ {w h : ℕ} {s : List ℕ} {sx sy dx dy : ℕ} (k : MayMeet w h s sx sy dx dy) {x y : Span} (X : SpanOf sx dx x) (Y : SpanOf sy dy y) {i : ℕ}
-    (e : i ≡ number w x.low y.low) where
+module _ {w h sx sy dx dy : ℕ} (k : Ends w h sx sy dx dy) {x y : Span} (X : SpanOf sx dx x) (Y : SpanOf sy dy y) {i : ℕ} (e : i ≡ number w x.low y.low) where
   on_it : (j l : ℕ) → j < x.many → l < y.many → On w h (x.low + j) (y.low + l)
   on_it j l p q =
       record { in_x = omega (arith, X.low, X.many, k.from.in_x, k.to.in_x); in_y = omega (arith, Y.low, Y.many, k.from.in_y, k.to.in_y) }
@@ -73,42 +76,46 @@ module _ {w h : ℕ} {s : List ℕ} {sx sy dx dy : ℕ} (k : MayMeet w h s sx sy
   by_rows : (j l : ℕ) → i + j * w + l * 1 ≡ number w (x.low + l) (y.low + j)
   by_rows j l = omega (arith, add-mul y.low j w)
 
-  pub columns_laid : LaidOut s i 1 w x.many y.many
-  columns_laid =
-      record {
-        some = omega (arith, Y.low, Y.many);
-        inside = λ j p l q. omega (arith, by_columns j l, number_lt _ _ _ _ (on_it j l p q), k.fits.size);
-      }
+  module _ (s : List ℕ) (size : length s ≡ h * w) where
+    pub columns_laid : LaidOut s i 1 w x.many y.many
+    columns_laid =
+        record {
+          some = omega (arith, Y.low, Y.many);
+          inside = λ j p l q. omega (arith, by_columns j l, number_lt _ _ _ _ (on_it j l p q), size);
+        }
 
-  pub rows_laid : LaidOut s i w 1 y.many x.many
-  rows_laid =
-      record {
-        some = omega (arith, X.low, X.many);
-        inside = λ j p l q. omega (arith, by_rows j l, number_lt _ _ _ _ (on_it l j q p), k.fits.size);
-      }
+    pub rows_laid : LaidOut s i w 1 y.many x.many
+    rows_laid =
+        record {
+          some = omega (arith, X.low, X.many);
+          inside = λ j p l q. omega (arith, by_rows j l, number_lt _ _ _ _ (on_it l j q p), size);
+        }
 
-  column_tells : (j l : ℕ) → j < x.many → l < y.many → (get_or s (i + j * 1 + l * w) 0 ≡ 0 ↔ Open w h (Marked s w h) (x.low + j) (y.low + l))
-  column_tells j l p q = unmarked_open (on_it j l p q) (by_columns j l)
+    column_tells : (j l : ℕ) → j < x.many → l < y.many → (get_or s (i + j * 1 + l * w) 0 ≡ 0 ↔ Open w h (Marked s w h) (x.low + j) (y.low + l))
+    column_tells j l p q = unmarked_open (on_it j l p q) (by_columns j l)
 
-  row_tells : (j l : ℕ) → j < y.many → l < x.many → (get_or s (i + j * w + l * 1) 0 ≡ 0 ↔ Open w h (Marked s w h) (x.low + l) (y.low + j))
-  row_tells j l p q = unmarked_open (on_it l j q p) (by_rows j l)
+    row_tells : (j l : ℕ) → j < y.many → l < x.many → (get_or s (i + j * w + l * 1) 0 ≡ 0 ↔ Open w h (Marked s w h) (x.low + l) (y.low + j))
+    row_tells j l p q = unmarked_open (on_it l j q p) (by_rows j l)
 
-  module _ {r : ℕ} (F : FirstBare s i 1 w x.many y.many r) where
-    pub column_there : r < x.many → OpenColumn w h (Marked s w h) sx sy dx dy (x.low + r)
-    column_there l = let t = line_there s i 1 w X Y (Open w h (Marked s w h)) column_tells F l in record { between = t.0; throughout = t.1 }
+    module _ {r : ℕ} (F : FirstAt s i 1 w x.many y.many r) where
+      column_there : OpenColumn w h (Marked s w h) sx sy dx dy (x.low + r)
+      column_there = let t = line_there s i 1 w X Y (Open w h (Marked s w h)) column_tells F in record { between = t.0; throughout = t.1 }
 
-    pub column_first : (p : ℕ) → OpenColumn w h (Marked s w h) sx sy dx dy p → x.low + r ≤ p
-    column_first p t = line_first s i 1 w X Y (Open w h (Marked s w h)) column_tells F p (t.between, t.throughout)
+      column_first : (p : ℕ) → OpenColumn w h (Marked s w h) sx sy dx dy p → x.low + r ≤ p
+      column_first p t = line_first s i 1 w X Y (Open w h (Marked s w h)) column_tells F p (t.between, t.throughout)
 
-    pub column_none : x.many ≤ r → (p : ℕ) → ¬ OpenColumn w h (Marked s w h) sx sy dx dy p
-    column_none l p t = line_none s i 1 w X Y (Open w h (Marked s w h)) column_tells F l p (t.between, t.throughout)
+    pub column_none : FirstBare s i 1 w x.many y.many None → ¬ HasLines w h (Marked s w h) sx sy dx dy
+    column_none F t = line_none s i 1 w X Y (Open w h (Marked s w h)) column_tells F t.column (t.column_open.between, t.column_open.throughout)
 
-  module _ {r : ℕ} (F : FirstBare s i w 1 y.many x.many r) where
-    pub row_there : r < y.many → OpenRow w h (Marked s w h) sx sy dx dy (y.low + r)
-    row_there l = let t = line_there s i w 1 Y X (λ q p. Open w h (Marked s w h) p q) row_tells F l in record { between = t.0; throughout = t.1 }
+    module _ {r : ℕ} (F : FirstAt s i w 1 y.many x.many r) where
+      row_there : OpenRow w h (Marked s w h) sx sy dx dy (y.low + r)
+      row_there = let t = line_there s i w 1 Y X (λ q p. Open w h (Marked s w h) p q) row_tells F in record { between = t.0; throughout = t.1 }
 
-    pub row_first : (q : ℕ) → OpenRow w h (Marked s w h) sx sy dx dy q → y.low + r ≤ q
-    row_first q t = line_first s i w 1 Y X (λ q p. Open w h (Marked s w h) p q) row_tells F q (t.between, t.throughout)
+      row_first : (q : ℕ) → OpenRow w h (Marked s w h) sx sy dx dy q → y.low + r ≤ q
+      row_first q t = line_first s i w 1 Y X (λ q p. Open w h (Marked s w h) p q) row_tells F q (t.between, t.throughout)
 
-    pub row_none : y.many ≤ r → (q : ℕ) → ¬ OpenRow w h (Marked s w h) sx sy dx dy q
-    row_none l q t = line_none s i w 1 Y X (λ q p. Open w h (Marked s w h) p q) row_tells F l q (t.between, t.throughout)
+    pub row_none : FirstBare s i w 1 y.many x.many None → ¬ HasLines w h (Marked s w h) sx sy dx dy
+    row_none F t = line_none s i w 1 Y X (λ q p. Open w h (Marked s w h) p q) row_tells F t.row (t.row_open.between, t.row_open.throughout)
+
+    pub lines_met : {p q : ℕ} → FirstAt s i 1 w x.many y.many p → FirstAt s i w 1 y.many x.many q → Lines w h (Marked s w h) sx sy dx dy (x.low + p) (y.low + q)
+    lines_met F G = record { column_open = column_there F; westmost = column_first F; row_open = row_there G; southmost = row_first G }

@@ -1,6 +1,7 @@
 -- One part of the drive: where there is a shortest drive and the route holds it, nothing is
 -- refused, and the chooser's drive is written.
 use mathlib.Core.Path.{◌≡◌, refl}
+use Rattle.std.specs.Prelude.{Result}
 use mathlib.Core.List.{List}
 use mathlib.Core.Logic.{inl, inr}
 use Prim.Native.Nat.{ℕ}
@@ -10,11 +11,10 @@ use Rattle.field.specs.Drives.{HasDrive, RegionSheet}
 use Rattle.field.proofs.Workings.DriveLaws.{has_drive_open, has_drive_open_end}
 use Rattle.calls.specs.Rules.{gives_one, AnEndClosed, region_rows, drive_rows}
 use Rattle.calls.specs.RuleLaws.{None, none_gives}
-use Rattle.regions.specs.declared.Found.{Found}
-use Rattle.regions.specs.Promise.{found_number, Regioned}
-use Rattle.drives.specs.declared.Made.{Made}
-use Rattle.drives.specs.declared.Made.TheVariants.{Filled}
-use Rattle.drives.specs.Promise.{made_number, Makes}
+use Rattle.field.specs.Refusals.{told}
+use Rattle.field.specs.declared.refusals.Refusal.{Refusal}
+use Rattle.regions.specs.Promise.{Regioned}
+use Rattle.drives.specs.Promise.{Makes}
 use Rattle.meetings.specs.Parts.{MayGo, Gone}
 
 -- Where there is a shortest drive, both its ends are open: the region is not refused either.
@@ -23,9 +23,9 @@ module _ {w h : ℕ} {s : List ℕ} {ax ay ex ey : ℕ} (v : HasDrive w h (Marke
   ends_open (inl c) = (has_drive_open w h (Marked s w h) v).free c
   ends_open (inr c) = (has_drive_open_end w h (Marked s w h) v).free c
 
-  pub region_sure : {g g' : List ℕ} {found : Found} → Regioned w h s ax ay ex ey g g' found → RegionSheet w h (Marked s w h) ax ay ex ey g'
+  pub region_sure : {g g' : List ℕ} {found : Result (Unit {0}) Refusal} → Regioned w h s ax ay ex ey g g' found → RegionSheet w h (Marked s w h) ax ay ex ey g'
   region_sure {found = found} r =
-      let e : found_number found ≡ 0 =
+      let e : told found ≡ 0 =
       gives_one (region_rows w h (Marked s w h) ax ay ex ey) _ _ r.given
       (none_gives (region_rows w h (Marked s w h) ax ay ex ey) 0 refl (ends_open, (λ n. n.none v, tt))) in
       r.region_after.made (λ b. omega (arith, b.0))
@@ -34,17 +34,16 @@ module _ {w h : ℕ} {s g : List ℕ} {ax ay ex ey : ℕ} {route : List ℕ} (k 
   no_row : None (drive_rows w h (Marked s w h) ax ay ex ey route)
   no_row = (ends_open k.some, (λ n. n.none k.some, (λ l. omega (arith, k.room), tt)))
 
-  module _ {z : ℕ} {g' route' : List ℕ} {made : Made} (m : Makes w h s ax ay ex ey z g g' route route' made) where
-    -- No refusal is given.
-    pub never_refused : made_number made ≡ 0
-    never_refused =
-        gives_one (drive_rows w h (Marked s w h) ax ay ex ey route) _ _ m.given
-        (none_gives (drive_rows w h (Marked s w h) ax ay ex ey route) 0 refl no_row)
-
-  pub gone : {z n z' : ℕ} {g' route' : List ℕ} → Makes w h s ax ay ex ey z g g' route route' (Filled n z') → Gone w h s ax ay ex ey z g' route route' z'
-  gone m =
+  -- So no refusal is given.
+  pub gone : {z z' : ℕ} {g' route' : List ℕ} {made : Result ℕ Refusal} → Makes w h s ax ay ex ey z g g' route route' z' made → Gone w h s ax ay ex ey z g' route route' z'
+  gone {made = made} m =
       record {
-        sheet = m.region_after.made (λ b. omega (arith, b.0));
-        driven = rw (m.route_after.long refl) at (m.route_after.driven refl);
-        rest = rw (m.route_after.long refl) at (m.route_after.rest refl);
+        sheet = m.region_after.made (λ b. omega (arith, b.0, never));
+        driven = rw (m.route_after.long never) at (m.route_after.driven never);
+        rest = rw (m.route_after.long never) at (m.route_after.rest never);
       }
+    where
+      never : told made ≡ 0
+      never =
+          gives_one (drive_rows w h (Marked s w h) ax ay ex ey route) _ _ m.given
+          (none_gives (drive_rows w h (Marked s w h) ax ay ex ey route) 0 refl no_row)

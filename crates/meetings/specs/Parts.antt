@@ -11,7 +11,7 @@ use Rattle.meetings.specs.Promise.{MayJoin}
 
 -- There is a shortest drive from (ax, ay) to (ex, ey), and the route has room for it.
 pub record MayGo (w h : ℕ) (s g : List ℕ) (ax ay ex ey : ℕ) (route : List ℕ) : Type 0 where
-  pub may : MayFind w h s g ax ay ex ey
+  pub may : MayFind w h g ax ay ex ey
   pub some : HasDrive w h (Marked s w h) ax ay ex ey
   pub room : dist ax ay ex ey < length route
 

@@ -1,5 +1,5 @@
 -- What the search for open lines asks and tells, in numbers of crossings.
-use Rattle.std.specs.Prelude.{◌≡◌, List, ℕ, ◌+◌, ◌*◌, ◌<◌, ◌≤◌, min, max, length, get_or}
+use Rattle.std.specs.Prelude.{Option, None, Some, ◌≡◌, List, ℕ, ◌+◌, ◌*◌, ◌<◌, min, max, length, get_or}
 use Rattle.field.specs.Map.{side}
 use Rattle.meetings.specs.declared.search.Span.{Span}
 
@@ -25,8 +25,12 @@ pub record LaidOut (s : List ℕ) (i across along m n : ℕ) : Type 0 where
   pub some : 0 < n
   pub inside : (j : ℕ) → j < m → Laid s (i + j * across) along n
 
--- Line r is the first without a mark; r is m where there is none.
-pub record FirstBare (s : List ℕ) (i across along m n r : ℕ) : Type 0 where
-  pub most : r ≤ m
+-- Line r is the first without a mark, or every line has one.
+pub record FirstAt (s : List ℕ) (i across along m n r : ℕ) : Type 0 where
+  pub below : r < m
   pub before : (j : ℕ) → j < r → ¬ Bare s (i + j * across) along n
-  pub there : r < m → Bare s (i + r * across) along n
+  pub there : Bare s (i + r * across) along n
+
+abbrev pub FirstBare : List ℕ → ℕ → ℕ → ℕ → ℕ → ℕ → Option ℕ → Type 0
+FirstBare s i across along m n None = (j : ℕ) → j < m → ¬ Bare s (i + j * across) along n
+FirstBare s i across along m n (Some r) = FirstAt s i across along m n r

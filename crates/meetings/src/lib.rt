@@ -6,80 +6,66 @@ mod parts; // parts.rt: the drive in its two parts
 mod search; // search.rt: the search for open lines
 
 ghost use Rattle.field.specs.Workings.Sheet.{Marked};
-ghost use Rattle.meetings.specs.Promise.{MayMeet, Says, MayJoin, Joins};
+ghost use Rattle.regions.specs.Promise.{Ends};
+ghost use Rattle.meetings.specs.Promise.{Says, MayJoin, Joins};
 
-use drives::chooser::offset;
-use search::{between, first_open};
-use sheets::number_of;
+use drives::chooser::distance;
+use field::{Place, Refusal};
+use search::{Line, Span, first_open};
+use sheets::{Sheet, number_of};
 
-// What the test says: no, or yes with the westmost open column and the southmost open row.
-#[derive(Clone, Copy)]
-pub enum Met {
-    No,
-    Yes(usize, usize),
-}
-
-// Whether some column and some row between (sx, sy) and (dx, dy) are open throughout the rectangle
-// that the two span: the westmost column and the southmost row. Columns are looked at from the
-// west, rows from the south, each crossing of the rectangle at most once for either.
-pub fn lines(s: &[u8], w: usize, h: usize, sx: usize, sy: usize, dx: usize, dy: usize) -> Met
-    requires { MayMeet w h s.now sx sy dx dy }
-    ensures { Says w h (Marked s.now w h) sx sy dx dy result }
+// Whether some column and some row between two places are open throughout the rectangle that the
+// two span: where the westmost such column and the southmost such row meet. Columns are looked at
+// from the west, rows from the south, each crossing of the rectangle at most once for either.
+pub fn lines(s: Sheet<'_>, from: Place, to: Place) -> Option<Place>
+    requires { Ends s.map.w s.map.h from.x from.y to.x to.y }
+    ensures { Says s.entry.map.w s.entry.map.h (Marked s.entry.cells.now s.entry.map.w s.entry.map.h) from.x from.y to.x to.y result }
 {
-    let x = between(sx, dx);
-    let y = between(sy, dy);
-    let i = number_of(w, h, x.low, y.low);
-    let column = first_open(s, i, 1, w, x.many, y.many);
-    if column == x.many {
-        return Met::No;
-    }
-    let row = first_open(s, i, w, 1, y.many, x.many);
-    if row == y.many {
-        return Met::No;
-    }
-    Met::Yes(x.low + column, y.low + row)
+    let x = Span::between(from.x, to.x);
+    let y = Span::between(from.y, to.y);
+    let first = number_of(s.map, Place { x: x.low, y: y.low });
+    let west = Line {
+        first,
+        step: s.map.w,
+        many: y.many,
+    };
+    let column = first_open(s.cells, west, 1, x.many)?;
+    let south = Line {
+        first,
+        step: 1,
+        many: x.many,
+    };
+    let row = first_open(s.cells, south, s.map.w, y.many)?;
+    Some(Place {
+        x: x.low + column,
+        y: y.low + row,
+    })
 }
 
-// What asking for the drive by way of the meeting crossing makes: nothing, there being no such
-// column and row (19) or the route too short (10); or so many crossings at the route's front, and
-// the state after it.
-#[derive(Clone, Copy)]
-pub enum Joined {
-    NoLines,
-    Short,
-    Filled(usize, u32),
-}
-
-// The drive from (sx, sy) to (dx, dy), both open, by way of the crossing where the westmost open
-// column and the southmost open row meet, into the front of a lent route; the rest of the route
-// stays. Without such lines neither the region sheet nor the route is touched; where the route is
-// too short the sheet holds the region of s and d, as after the drive.
+// The drive between two open places by way of the crossing where the westmost open column and the
+// southmost open row meet, from the state lent, into the front of a lent route: how many crossings
+// are filled. The rest of the route stays, and the state is the one after the drive. Without such
+// lines (19) neither the region sheet nor the route is touched; where the route is too short (10)
+// the sheet holds the region of s and d, as after the drive.
 pub fn join(
-    s: &[u8],
-    w: usize,
-    h: usize,
-    sx: usize,
-    sy: usize,
-    dx: usize,
-    dy: usize,
-    z: u32,
+    s: Sheet<'_>,
+    from: Place,
+    to: Place,
     g: &mut [u8],
     route: &mut [u16],
-) -> Joined
-    requires { MayJoin w h s.now g.old sx sy dx dy }
-    ensures { Joins w h s.now sx sy dx dy z g.old g.new route.old route.new result }
+    state: &mut u32,
+) -> Result<usize, Refusal>
+    requires { MayJoin s.map.w s.map.h s.cells.now g.old from.x from.y to.x to.y }
+    ensures { Joins s.entry.map.w s.entry.map.h s.entry.cells.now from.x from.y to.x to.y state.old g.old g.new route.old route.new state.new result }
 {
-    let met = lines(s, w, h, sx, sy, dx, dy);
-    match met {
-        Met::No => Joined::NoLines,
-        Met::Yes(x, y) => {
-            let n = offset(sx, dx) + offset(sy, dy) + 1;
-            if route.len() < n {
-                regions::region(s, w, h, sx, sy, dx, dy, g);
-                return Joined::Short;
-            }
-            let state = parts::drive(s, w, h, sx, sy, dx, dy, x, y, z, g, route);
-            Joined::Filled(n, state)
-        }
+    let Some(by) = lines(s, from, to) else {
+        return Err(Refusal::NoLines);
+    };
+    let length = distance(s.map, from, to) + 1;
+    if route.len() < length {
+        parts::sure_region(s, from, to, g);
+        return Err(Refusal::ShortRoute);
     }
+    parts::drive(s, from, by, to, g, route, state);
+    Ok(length)
 }

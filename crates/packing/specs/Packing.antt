@@ -2,7 +2,6 @@
 -- PackingLaws.
 use Rattle.std.specs.Prelude.{◌≡◌, ◌&&◌, List, [], ◌∷◌, ◌++◌, ℕ, zero, suc, ◌+◌, ◌*◌, ◌-◌, ◌<◌, ◌≤◌, ltb, length, get_or}
 use Rattle.field.specs.Workings.Sheet.{bit}
-use Rattle.sheets.specs.Promise.{Fits}
 use Rattle.mapfile.specs.Raster.{row_bytes}
 
 -- The sheet has the whole row of w crossings from the number `from` on.
@@ -19,11 +18,6 @@ pub record RowRoom (s : List ℕ) (w y : ℕ) (out : List ℕ) : Type 0 where
   pub whole : y * w + w ≤ length s
   pub room : length out ≡ row_bytes w
 
--- The output has just the room for the map's rows.
-pub record RowsRoom (w h : ℕ) (s out : List ℕ) : Type 0 where
-  pub fits : Fits w h s
-  pub room : length out ≡ h * row_bytes w
-
 -- The bit of column x of the row from the number `from` on: 1 where the sheet has a mark, 0 where
 -- it has none and past the row's end.
 unfoldable pub rock_bit : List ℕ → ℕ → ℕ → ℕ → ℕ
@@ -39,7 +33,7 @@ unfoldable pub byte_of : List ℕ → ℕ → ℕ → ℕ → ℕ
 byte_of s from w x = packed (rock_bit s from w) x 8
 
 -- n pieces, one after the other.
-unfoldable pub pieces : ℕ → (ℕ → List ℕ) → List ℕ
+unfoldable pub pieces : {A : Type 0} → ℕ → (ℕ → List A) → List A
 pieces zero f = []
 pieces (suc n) f = pieces n f ++ f n
 

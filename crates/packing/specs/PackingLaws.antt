@@ -63,7 +63,11 @@ module _ (f : ℕ → ℕ) (small : (x : ℕ) → f x ≤ 1) (x : ℕ) where
 pub piece_end : (r n m : ℕ) → r < n → r * m + m ≤ n * m
 piece_end r n m h = rw (suc-mul r m) at (mul-le-mul_right {m = suc r} {n = n} m h)
 
-pub pieces_more : (n : ℕ) (f : ℕ → List ℕ) → pieces (n + 1) f ≡ pieces n f ++ f n
+-- So a row of h ends within all that they have.
+pub row_ends : (r h m n : ℕ) → r < h → n ≡ h * m → r * m + m ≤ n
+row_ends r h m n l e = omega (arith, piece_end r h m l)
+
+pub pieces_more : {A : Type 0} (n : ℕ) (f : ℕ → List A) → pieces (n + 1) f ≡ pieces n f ++ f n
 unfolding pieces
 pieces_more n f = rw add-one
 

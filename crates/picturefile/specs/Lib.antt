@@ -1,5 +1,6 @@
 -- Pictures of distances, raw PGM, in the order of the bytes.
 pub mod Depths
+pub mod Kinds
 pub mod Picture
 pub mod Written
 pub mod Working

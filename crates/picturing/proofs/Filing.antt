@@ -4,7 +4,7 @@ use mathlib.Core.Path.{◌≡◌, refl, ◌∙◌}
 use mathlib.Core.List.{List, [], ◌∷◌, ◌++◌, append_assoc}
 use Prim.Native.Nat.{ℕ, ◌+◌, ◌*◌, ◌<◌}
 use native.Mathlib.Omega.{arith}
-use lib.ListN.{length, get_or, drop, length-append}
+use lib.ListN.{length, get_or, length-append}
 use Rattle.field.specs.Map.{Sides, largest_value}
 use Rattle.field.specs.Limits.{largest_is}
 use Rattle.mapfile.specs.Header.{most_digits}
@@ -72,9 +72,3 @@ file_written {w} {a} {h} {b} sheet s p q size small =
         is = pieces_joined picture_letters (digits_of a w) (digits_of b h) (digits_of 5 largest_value) (raster_of sheet w h);
       };
     }
-
--- The pieces in the output are the file, and what stands behind them stays.
-pub pieces_file : (w a h b : ℕ) (rows out : List ℕ) (end : ℕ) {header largest : List ℕ} → header ≡ header_of picture_letters w a h b → largest ≡ largest_line
-    → length (file_of w a h b rows) ≡ end → ((header ++ largest) ++ rows) ++ drop end out ≡ file_of w a h b rows ++ drop (length (file_of w a h b rows)) out
-unfolding file_of
-pieces_file w a h b rows out end p q e = rw (p, q, ← e)

@@ -1,4 +1,3 @@
 -- Laws that the proofs of the functions share.
 mod Lending
 mod Filing
-mod Answering

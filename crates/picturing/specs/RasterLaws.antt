@@ -91,14 +91,6 @@ bytes_at sheet n i l = (
   pieces_at (λ i. get_or sheet i 0 / 256 ∷ get_or sheet i 0 % 256 ∷ []) 2 (λ i. refl) n i 1 l (omega arith),
 )
 
--- Two bytes more.
-pub bytes_more : (sheet : List ℕ) (n : ℕ)
-    → (bytes_from sheet n ++ get_or sheet n 0 / 256 ∷ []) ++ get_or sheet n 0 % 256 ∷ [] ≡ bytes_from sheet (n + 1)
-unfolding bytes_from
-bytes_more sheet n =
-    append_assoc (bytes_from sheet n) (get_or sheet n 0 / 256 ∷ []) (get_or sheet n 0 % 256 ∷ [])
-    ∙ sym (pieces_more n (λ i. get_or sheet i 0 / 256 ∷ get_or sheet i 0 % 256 ∷ []))
-
 module _ (sheet : List ℕ) (w h : ℕ) where
   row_bytes_lem : (r : ℕ) → length (raster_row sheet w h r) ≡ w * 2
   unfolding raster_row
@@ -170,3 +162,11 @@ module _ (sheet : List ℕ) (w h : ℕ) where
       go : Dec (i < h * (w * 2)) → get_or (raster_of sheet w h) i 0 < 256
       go (yes m) = byte (crossing w h (i / 2) (omega (arith, mul_assoc h w 2)))
       go (no m) = omega (arith, get_or-eq_default (raster_of sheet w h) 0 {n = i} (omega (arith, raster_length)))
+
+-- Two bytes more.
+pub bytes_more : (sheet : List ℕ) (n : ℕ)
+    → (bytes_from sheet n ++ get_or sheet n 0 / 256 ∷ []) ++ get_or sheet n 0 % 256 ∷ [] ≡ bytes_from sheet (n + 1)
+unfolding bytes_from
+bytes_more sheet n =
+    append_assoc (bytes_from sheet n) (get_or sheet n 0 / 256 ∷ []) (get_or sheet n 0 % 256 ∷ [])
+    ∙ sym (pieces_more n (λ i. get_or sheet i 0 / 256 ∷ get_or sheet i 0 % 256 ∷ []))

@@ -1,20 +1,13 @@
 -- Rasters as the code reads and writes them, computed. That these are the grammar's stands in
 -- RasterLaws.
 use Rattle.std.specs.Prelude.{◌≡◌, List, [], ◌∷◌, ℕ, ◌+◌, ◌*◌, ◌-◌, ◌/◌, ◌%◌, ◌≤◌, length, get_or, drop}
-use Rattle.field.specs.Map.{Sides}
 use Rattle.packing.specs.Packing.{pieces}
 use Rattle.picturefile.specs.declared.Depth.{Depth}
 use Rattle.picturefile.specs.Depths.{bytes_of}
 use Rattle.picturefile.specs.Working.{sample_of}
 
--- The bytes begin with a whole row, and the part of the sheet has just the room for it.
-pub record RowRead (d : Depth) (w : ℕ) (raster part : List ℕ) : Type 0 where
-  pub whole : w * bytes_of d ≤ length raster
-  pub room : length part ≡ w
-
 -- What reading asks: just the bytes of the map's crossings, and a sheet of its size.
 pub record MayRead (d : Depth) (w h : ℕ) (raster sheet : List ℕ) : Type 0 where
-  pub sides : Sides w h
   pub whole : length raster ≡ h * w * bytes_of d
   pub size : length sheet ≡ h * w
 
@@ -25,7 +18,6 @@ pub record RowWritten (w : ℕ) (sheet part : List ℕ) : Type 0 where
 
 -- What writing asks: a sheet of the map's size, and just the room for its raster.
 pub record MayWrite (w h : ℕ) (sheet out : List ℕ) : Type 0 where
-  pub sides : Sides w h
   pub size : length sheet ≡ h * w
   pub room : length out ≡ h * (w * 2)
 

@@ -4,7 +4,7 @@
 use mathlib.Core.Path.{◌≡◌, refl}
 use mathlib.Core.Bool.{true, ◌&&◌}
 use mathlib.Core.List.{List}
-use mathlib.Core.Logic.{◌↔◌, ◌≢◌}
+use mathlib.Core.Logic.{◌↔◌}
 use Prim.Native.Nat.{ℕ, ◌-◌, ◌<◌, ◌≤◌}
 use native.Mathlib.Omega.{arith}
 use native.Mathlib.Decide.{ℕ_discrete}
@@ -18,7 +18,7 @@ use Rattle.field.specs.Map.{Sides, On, at, gap}
 use Rattle.field.specs.Labels.{Open}
 use Rattle.field.specs.Distances.{Distances, Assured}
 use Rattle.field.specs.Drives.{HasDrive, InOut, is_in, is_out}
-use Rattle.field.specs.Depots.{depot_x, depot_y, all_zero, Sizes, depot_closed, depot_open}
+use Rattle.field.specs.Depots.{depot_x, depot_y, Sizes, depot_open}
 use Rattle.field.specs.Workings.Tests.{and_split, and_both}
 use Rattle.field.specs.Workings.Sheet.{Marked, marked_draws}
 use Rattle.field.specs.Workings.Looking.{axis_of}
@@ -40,7 +40,7 @@ way_up {x} {w} l = (between {a = 0} {b = w - 1 - 0} {p = x} (omega arith) (omega
 way_down : {x w : ℕ} → x < w → OnWay (w - 1) (w - 1 - (w - 1)) x
 way_down {x} {w} l = (between {a = w - 1 - (w - 1)} {b = w - 1} {p = x} (omega arith) (omega arith)).1
 
-pub corner_spans : (depot : Depot) {w h x y : ℕ} → On w h x y → Spanned (depot_x depot w) (depot_y depot h) (w - 1 - depot_x depot w) (h - 1 - depot_y depot h) x y
+corner_spans : (depot : Depot) {w h x y : ℕ} → On w h x y → Spanned (depot_x depot w) (depot_y depot h) (w - 1 - depot_x depot w) (h - 1 - depot_y depot h) x y
 corner_spans SouthWest o = record { across = way_up o.in_x; along = way_up o.in_y }
 corner_spans SouthEast o = record { across = way_down o.in_x; along = way_up o.in_y }
 corner_spans NorthWest o = record { across = way_up o.in_x; along = way_down o.in_y }
@@ -86,16 +86,10 @@ module _ (w h : ℕ) (s : List ℕ) where
 
 -- The depot is at (dx, dy), and v stands there on the sheet of the closed crossings.
 module _ (depot : Depot) {w h dx dy : ℕ} (sides : Sides w h) (ex : dx ≡ depot_x depot w) (ey : dy ≡ depot_y depot h) where
-  pub depot_on : On w h dx dy
+  depot_on : On w h dx dy
   depot_on = rw (ex, ey) (corner_on depot sides)
 
-  pub opposite_on : On w h (w - 1 - dx) (h - 1 - dy)
-  opposite_on = let o = depot_on in record { in_x = omega (arith, sides.some_w); in_y = omega (arith, sides.some_h) }
-
   module _ (s : List ℕ) {v : ℕ} (e : v ≡ at s w dx dy) where
-    pub places_none : {g : List ℕ} {p : Placing} → v ≢ 0 → p ≡ all_zero → Places w h s depot g g p
-    places_none n z = record { placed = rw (← ex, ← ey) (depot_closed (record { on = depot_on; mark = omega arith }) z); kept = refl }
-
     pub places_all : {g g' four : List ℕ} {p : Placing} → v ≡ 0 → Reached w h s dx dy (w - 1 - dx) (h - 1 - dy) g g' → Distances (Marked s w h) dx dy four
         → p ≡ count_of s g' w four dx dy h → Places w h s depot g g' p
     places_all {g' = g'} z r d c =

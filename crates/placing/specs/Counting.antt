@@ -1,25 +1,11 @@
 -- The counts over a map, row by row and crossing by crossing: s marks the closed crossings, g those
 -- with a shortest drive to the depot (dx, dy), and four has the depot's distances, east, south,
 -- west, north.
-use Rattle.std.specs.Prelude.{Bool, ◌&&◌, List, ℕ, ◌<◌, ltb, eqb, get_or}
+use Rattle.std.specs.Prelude.{Bool, ◌&&◌, List, ℕ, ltb, eqb, get_or}
 use Rattle.field.specs.declared.Placing.{Placing}
 use Rattle.field.specs.Map.{at}
 use Rattle.field.specs.Workings.Looking.{axis_of}
 use Rattle.field.specs.Workings.Placing.{adds, total_to}
-use Rattle.sheets.specs.Promise.{Fits}
-
--- The largest number of 64 bits.
-abbrev pub largest : ℕ
-largest = 18446744073709551615
-
--- What is asked of the two sheets, and of a row of theirs.
-pub record Counting (w h : ℕ) (s g : List ℕ) : Type 0 where
-  pub closed : Fits w h s
-  pub reached : Fits w h g
-
-pub record CountingRow (w h : ℕ) (s g : List ℕ) (y : ℕ) : Type 0 where
-  pub sheets : Counting w h s g
-  pub in_y : y < h
 
 -- What (x, y) adds; level is the row's test.
 unfoldable pub adds_at : List ℕ → List ℕ → ℕ → Bool → ℕ → ℕ → ℕ → ℕ → ℕ → Placing

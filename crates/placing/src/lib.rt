@@ -5,54 +5,50 @@
 
 mod counts; // counts.rt: the four numbers, crossing by crossing
 
-ghost use Rattle.std.specs.Prelude.{◌≡◌, ◌≤◌};
-ghost use Rattle.field.specs.Depots.{depot_x, depot_y};
-ghost use Rattle.placing.specs.Promise.{MayPlace, Places};
+ghost use Rattle.std.specs.Prelude.{◌≡◌, ◌*◌, length};
+ghost use Rattle.placing.specs.Promise.{CornerOf, Places};
 
-use counts::count;
-pub use counts::{numbers, plus};
+use counts::{Home, count};
 use distances::distances;
-use field::{Depot, Placing};
+use field::{Depot, Place, Placing, Size};
 use regions::reach;
-use sheets::mark;
+use sheets::Sheet;
 
-// The depot's column, and its row.
-fn column(depot: Depot, w: usize) -> usize
-    requires { 1 ≤ w }
-    ensures { result ≡ depot_x depot w }
+// The depot's corner of the map.
+fn corner(depot: Depot, map: Size) -> Place
+    ensures { CornerOf depot map.w map.h result }
 {
+    let east = map.w - 1;
+    let north = map.h - 1;
     match depot {
-        Depot::SouthWest => 0,
-        Depot::SouthEast => w - 1,
-        Depot::NorthWest => 0,
-        Depot::NorthEast => w - 1,
-    }
-}
-
-fn row(depot: Depot, h: usize) -> usize
-    requires { 1 ≤ h }
-    ensures { result ≡ depot_y depot h }
-{
-    match depot {
-        Depot::SouthWest => 0,
-        Depot::SouthEast => 0,
-        Depot::NorthWest => h - 1,
-        Depot::NorthEast => h - 1,
+        Depot::SouthWest => Place { x: 0, y: 0 },
+        Depot::SouthEast => Place { x: east, y: 0 },
+        Depot::NorthWest => Place { x: 0, y: north },
+        Depot::NorthEast => Place { x: east, y: north },
     }
 }
 
 // The four numbers of a corner as depot. g is working memory: what stands on it before has no
 // influence, and what it holds afterwards is not promised.
-pub fn place(s: &[u8], w: usize, h: usize, depot: Depot, g: &mut [u8]) -> Placing
-    requires { MayPlace w h s.now g.old }
-    ensures { Places w h s.now depot g.old g.new result }
+pub fn place(s: Sheet<'_>, depot: Depot, g: &mut [u8]) -> Placing
+    requires { length g.old ≡ s.map.h * s.map.w }
+    ensures { Places s.entry.map.w s.entry.map.h s.entry.cells.now depot g.old g.new result }
 {
-    let dx = column(depot, w);
-    let dy = row(depot, h);
-    if mark(s, w, h, dx, dy) != 0 {
-        return numbers(0, 0, 0, 0);
+    let at = corner(depot, s.map);
+    if s.at(at) != 0 {
+        return Placing::default();
     }
-    reach(s, w, h, dx, dy, w - 1 - dx, h - 1 - dy, g);
-    let d = distances(s, w, h, dx, dy);
-    count(s, g, w, h, dx, dy, &d)
+    let opposite = Place {
+        x: s.map.w - 1 - at.x,
+        y: s.map.h - 1 - at.y,
+    };
+    reach(s, at, opposite, g);
+    count(
+        s,
+        g,
+        Home {
+            at,
+            four: distances(s, at),
+        },
+    )
 }

@@ -10,9 +10,7 @@ use Rattle.field.specs.declared.Placing.{Placing}
 use Rattle.mapfile.specs.File.{raw}
 use Rattle.mapfile.specs.Following.{refused}
 use Rattle.mapfile.proofs.RockLaws.{raster_bits}
-use Rattle.following.specs.declared.First.{First}
-use Rattle.following.specs.declared.First.TheVariants.{Map, Refused}
-use Rattle.following.specs.Promise.{Stands, MapRead, FirstRead}
+use Rattle.following.specs.Promise.{Stands, MapRead}
 use Rattle.printing.specs.Printed as printed
 use Rattle.printing.specs.Printed.{long, RefusalLine}
 use Rattle.printing.specs.Parts.{Put, Puts}
@@ -21,13 +19,6 @@ use Rattle.planning.specs.declared.Run.{Run}
 use Rattle.planning.specs.Promise.{most_maps, bad_map, past_maps}
 use Rattle.planning.specs.Steps.{step_room, OneMap, RunEnds}
 use Rattle.planning.specs.Parts.{Addable, MayTellMap, MapTold}
-
--- Each answer with its own promise.
-pub map_read : {src out : List ℕ} {ended : Bool} {w h used : ℕ} {r : First} → FirstRead src ended out r → r ≡ Map w h used → MapRead src ended w h used out
-map_read p e = rw e at p
-
-pub refused_read : (src out : List ℕ) (ended : Bool) {n : ℕ} {r : First} → FirstRead src ended out r → r ≡ Refused n → Stands src ended (λ t. refused n)
-refused_read src out ended p e = rw e at p
 
 -- Bytes at hand are there whatever follows.
 some_bytes : (l t : List ℕ) → 1 ≤ length l → ¬ (l ++ t ≡ [])
@@ -40,7 +31,6 @@ module _ {src bits : List ℕ} {ended : Bool} {w h used : ℕ} (m : MapRead src 
       let f = m.stands [] (λ e. refl) in
       let r = f.map.raster in
       record {
-        sides = f.map.sides;
         whole = omega (arith, length-take (h * w) bits, r.crossings);
         ones = λ i k. omega (arith, get_or-take (h * w) bits i 0 k, raster_bits raw w h f.map.own (take (h * w) bits) r i);
         room = l;

@@ -1,54 +1,38 @@
--- Numbers put one after the other make a line of four, and four lines the text of a map.
-use mathlib.Core.Path.{refl, ap, ◌∙◌}
-use mathlib.Core.List.{List, ◌++◌, append_assoc}
-use Prim.Native.Nat.{ℕ, ◌+◌, ◌<◌, ◌≤◌}
+-- A corner's numbers can be added to the sums, and the corners' lines, put one after the other, are
+-- the text of a map.
+use mathlib.Core.Path.{◌≡◌, refl, ap, ◌∙◌}
+use mathlib.Core.List.{List, [], ◌∷◌, ◌++◌, append_assoc}
+use Prim.Native.Nat.{ℕ, zero, suc, ◌+◌, ◌-◌, ◌*◌, ◌<◌, ◌≤◌}
 use native.Mathlib.Omega.{arith}
-use lib.ListN.{length}
+use native.Mathlib.Numerals.{add-one}
+use lib.ListN.{get_or}
 use Rattle.field.specs.Map.{Sides}
-use Rattle.field.specs.Workings.Placing.{plus}
+use Rattle.field.specs.Limits.{crossing_slots}
+use Rattle.field.specs.Workings.Placing.{plus, AtMost, Fitting}
 use Rattle.field.specs.declared.Depot.{Depot}
 use Rattle.field.specs.declared.Depot.TheVariants.{SouthWest, SouthEast, NorthWest, NorthEast}
 use Rattle.field.specs.declared.Placing.{Placing}
-use Rattle.printing.specs.Parts.{Put, Puts, NumberThen}
+use Rattle.printing.specs.Parts.{Put}
 use Rattle.printing.proofs.Putting.{put_then}
-use Rattle.printing.proofs.Lines.{number_ends, line_last, line_next}
 use Rattle.planning.specs.declared.lines.Told.{Told}
 use Rattle.planning.specs.Steps.{line_room}
-use Rattle.planning.specs.Parts.{FourNumbers, Addable, DepotTold, AllTold}
+use Rattle.planning.specs.Parts.{Addable, DepotTold, AllTold}
 use Rattle.planning.specs.LineLaws.{placed_most}
-use Rattle.planning.specs.TallyLaws.{addable_next}
+use Rattle.planning.specs.TallyLaws.{addable_now, addable_next}
 
--- Four numbers are a line.
-module _ {p : Placing} {out a b c after : List ℕ} {at i j k end : ℕ} where
-  pub four_put : at ≤ length out → Puts (NumberThen p.opens 32) out at a i → Puts (NumberThen p.assured 32) a i b j
-      → Puts (NumberThen p.driven 32) b j c k → Puts (NumberThen p.stranded 10) c k after end → Puts (FourNumbers p) out at after end
-  four_put l q r s t =
-      record {
-        piece = q.piece ++ (r.piece ++ (s.piece ++ t.piece));
-        right = record {
-          line = line_next q.right (line_next r.right (line_next s.right (line_last t.right)));
-          few = omega (arith, all.size, number_ends q, number_ends r, number_ends s, number_ends t);
-        };
-        put = all;
-      }
-    where
-      three : Put out at ((q.piece ++ r.piece) ++ s.piece) c k
-      three = put_then l (put_then l q.put r.put) s.put
+-- The numbers of a line can be added to the sums.
+pub sums_fit : {sums p : Placing} → Addable 1 sums → AtMost crossing_slots p → Fitting (plus sums p)
+sums_fit a p =
+    let m = addable_now a p in
+    record { opens_fit = omega arith; assured_fit = omega arith; driven_fit = omega arith; stranded_fit = omega arith }
 
-      all : Put out at (q.piece ++ (r.piece ++ (s.piece ++ t.piece))) after end
-      all = simp append_assoc at (put_then l three t.put)
-
--- How far a corner's line reaches, and that others can be added after it.
-module _ {w h : ℕ} {C : ℕ → ℕ → Type 0} {d : Depot} {told r : Told} {out after : List ℕ} (t : DepotTold w h C d told out after r) where
-  pub told_ends : r.end ≤ told.end + line_room
-  told_ends = omega (arith, t.puts.put.size, t.puts.right.few)
-
-  pub told_addable : (n : ℕ) → n < 4 → Sides w h → Addable (n + 1) told.sums → Addable n r.sums
-  told_addable n l s a = rw t.sums (addable_next n l a (placed_most s t.placed))
+-- The corners in the order of their lines.
+abbrev pub corners : List Depot
+corners = SouthWest ∷ SouthEast ∷ NorthWest ∷ NorthEast ∷ []
 
 -- Four of them are the lines of the map.
 module _ {w h : ℕ} {C : ℕ → ℕ → Type 0} {sums : Placing} {out a b c after : List ℕ} {i j k r : Told} where
-  pub lines_put : DepotTold w h C SouthWest (record { end = 0; sums = sums }) out a i → DepotTold w h C SouthEast i a b j → DepotTold w h C NorthWest j b c k
+  lines_put : DepotTold w h C SouthWest (record { end = 0; sums = sums }) out a i → DepotTold w h C SouthEast i a b j → DepotTold w h C NorthWest j b c k
       → DepotTold w h C NorthEast k c after r → AllTold w h C sums out after r
   lines_put p q s t =
       record {
@@ -74,3 +58,39 @@ module _ {w h : ℕ} {C : ℕ → ℕ → Type 0} {sums : Placing} {out a b c af
     where
       three : Put out 0 ((p.puts.piece ++ q.puts.piece) ++ s.puts.piece) c k.end
       three = put_then (omega arith) (put_then (omega arith) p.puts.put q.puts.put) s.puts.put
+
+-- After n corners: each one's line stands behind that of the one before.
+module _ (w h : ℕ) (C : ℕ → ℕ → Type 0) (sums : Placing) (out : List ℕ) where
+  pub record Begins (told : Told) (after : List ℕ) : Type 0 where
+    pub start : told ≡ record { end = 0; sums = sums }
+    pub same : after ≡ out
+
+  abbrev pub LinesTold : ℕ → Told → List ℕ → Type 0
+  LinesTold zero r after = Begins r after
+  LinesTold (suc n) r after = (told : Told) × (mid : List ℕ) × LinesTold n told mid × DepotTold w h C (get_or corners n SouthWest) told mid after r
+
+  -- They take their room at most, and leave sums to which the others can be added.
+  pub record Going (n : ℕ) (r : Told) (after : List ℕ) : Type 0 where
+    pub lines : LinesTold n r after
+    pub reach : r.end ≤ n * line_room
+    pub addable : Addable (4 - n) r.sums
+
+module _ {w h : ℕ} {C : ℕ → ℕ → Type 0} {sums : Placing} {out : List ℕ} where
+  pub going_none : Addable 4 sums → Going w h C sums out 0 (record { end = 0; sums = sums }) out
+  going_none a = record { lines = record { start = refl; same = refl }; reach = omega arith; addable = a }
+
+  pub going_next : (n : ℕ) {told r : Told} {mid after : List ℕ} → n < 4 → Sides w h → Going w h C sums out n told mid
+      → DepotTold w h C (get_or corners n SouthWest) told mid after r → Going w h C sums out (n + 1) r after
+  going_next n {told} {r} {mid} {after} l s g t =
+      record {
+        lines = rw add-one (told, mid, g.lines, t);
+        reach = omega (arith, t.puts.put.size, t.puts.right.few, g.reach);
+        addable = rw t.sums (addable_next n l g.addable (placed_most s t.placed));
+      }
+
+  -- All four are the lines of the map.
+  pub going_all : {r : Told} {after : List ℕ} → Going w h C sums out 4 r after → AllTold w h C sums out after r
+  going_all {r} {after} g = go g.lines
+    where
+      go : LinesTold w h C sums out 4 r after → AllTold w h C sums out after r
+      go (k, c, (j, b, (i, a, (s, o, z, p), q), u), t) = lines_put (rw (z.start, z.same) at p) q u t

@@ -1,16 +1,15 @@
 -- A run goes on within its bounds, so that its sums never overflow: a map adds at most every
 -- crossing of the largest map to each sum, four times.
-use Rattle.std.specs.Prelude.{◌≡◌, refl, Bool, List, [], ℕ, ◌+◌, ◌*◌, ◌<◌, ◌≤◌}
+use Rattle.std.specs.Prelude.{◌≡◌, refl, Bool, List, [], ℕ, ◌+◌, ◌-◌, ◌*◌, ◌<◌, ◌≤◌}
 use Rattle.std.proofs.Common.{ap, arith, suc-mul, mul-le-mul_right, add-one}
 use Rattle.field.specs.declared.Placing.{Placing}
 use Rattle.field.specs.Map.{side, Sides}
 use Rattle.field.specs.Limits.{crossing_slots, most_crossings_is}
 use Rattle.field.specs.Workings.Placing.{plus, AtMost}
-use Rattle.placing.specs.Counting.{largest}
 use Rattle.planning.specs.declared.Run.{Run}
 use Rattle.planning.specs.Promise.{most_maps, MapLines}
 use Rattle.planning.specs.Steps.{begun, Tally, OneMap}
-use Rattle.planning.specs.Parts.{Addable}
+use Rattle.planning.specs.Parts.{Addable, largest}
 use Rattle.planning.specs.LineLaws.{placed_most}
 
 -- The first run is within its bounds.
@@ -58,7 +57,7 @@ tally_addable {r} t = most_as (omega (arith, most_crossings_is, mul-le-mul_right
 pub addable_now : {sums p : Placing} → Addable 1 sums → AtMost crossing_slots p → AtMost largest (plus sums p)
 addable_now m k = record { opens_most = omega arith; assured_most = omega arith; driven_most = omega arith; stranded_most = omega arith }
 
-pub addable_next : (n : ℕ) → n < 4 → {sums p : Placing} → Addable (n + 1) sums → AtMost crossing_slots p → Addable n (plus sums p)
+pub addable_next : (n : ℕ) → n < 4 → {sums p : Placing} → Addable (4 - n) sums → AtMost crossing_slots p → Addable (4 - (n + 1)) (plus sums p)
 addable_next n l m k = record { opens_most = omega arith; assured_most = omega arith; driven_most = omega arith; stranded_most = omega arith }
 
 pub addable_less : (n m : ℕ) → m ≤ n → {sums : Placing} → Addable n sums → Addable m sums

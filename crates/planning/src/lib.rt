@@ -9,7 +9,7 @@ ghost use Rattle.planning.specs.Steps.{begun, Stepped};
 ghost use Rattle.planning.specs.Parts.{MayStep, MayStepMap};
 
 use field::{MOST_CROSSINGS, Placing};
-use following::First;
+use following::Stop;
 use lines::{put_four, put_map};
 use printing::{put_long, put_refusal};
 
@@ -20,7 +20,7 @@ pub const MOST_MAPS: usize = 65535;
 pub const ROOM: usize = 4 * 4 * printing::NUMBER;
 
 // A run so far: how many maps were read, and the sums over all their lines.
-#[derive(Clone, Copy)]
+#[derive(Clone, Copy, Debug, Default, PartialEq, Eq)]
 pub struct Run {
     pub maps: usize,
     pub sums: Placing,
@@ -29,10 +29,10 @@ pub struct Run {
 // What a step of a run finds: a map, with how many bytes it has, where its lines end in the output
 // and the run after it; the end of the run, with where its last line ends; or that it takes more
 // bytes to tell.
-#[derive(Clone, Copy)]
+#[derive(Clone, Copy, Debug, PartialEq, Eq)]
 pub enum Next {
-    Map(usize, usize, Run),
-    Last(usize),
+    Map { used: usize, end: usize, run: Run },
+    Last { end: usize },
     More,
 }
 
@@ -40,15 +40,7 @@ pub enum Next {
 pub fn begin() -> Run
     ensures { result ≡ begun }
 {
-    Run {
-        maps: 0,
-        sums: Placing {
-            opens: 0,
-            assured: 0,
-            driven: 0,
-            stranded: 0,
-        },
-    }
+    Run::default()
 }
 
 // A step where bytes are at hand and a map may follow.
@@ -57,20 +49,24 @@ fn map_step(src: &[u8], ended: bool, run: Run, out: &mut [u8]) -> Next
     ensures { Stepped run src.now ended out.old out.new result }
 {
     let mut bits = [0u8; MOST_CROSSINGS];
-    let first = following::next_map(src, ended, &mut bits);
-    match first {
-        First::Map(w, h, used) => {
-            let told = put_map(out, run.sums, &bits, w, h);
-            let sums = told.sums;
-            let next = Run {
+    match following::next_map(src, ended, &mut bits) {
+        Ok(Some(piece)) => {
+            let told = put_map(out, run.sums, &bits, piece.map);
+            let run = Run {
                 maps: run.maps + 1,
-                sums,
+                sums: told.sums,
             };
-            Next::Map(used, told.end, next)
+            Next::Map {
+                used: piece.used,
+                end: told.end,
+                run,
+            }
         }
-        First::Refused(n) => Next::Last(put_refusal(out, n as usize)),
-        First::Long => Next::Last(put_long(out)),
-        First::Unended => Next::More,
+        Ok(None) => Next::More,
+        Err(Stop::Refused(refusal)) => Next::Last {
+            end: put_refusal(out, usize::from(refusal.number())),
+        },
+        Err(Stop::Long) => Next::Last { end: put_long(out) },
     }
 }
 
@@ -81,14 +77,16 @@ pub fn step(src: &[u8], ended: bool, run: Run, out: &mut [u8]) -> Next
     requires { MayStep run out.old }
     ensures { Stepped run src.now ended out.old out.new result }
 {
-    if src.len() == 0 {
+    if src.is_empty() {
         if ended {
-            return Next::Last(put_four(out, 0, run.sums));
+            return Next::Last {
+                end: put_four(out, 0, run.sums),
+            };
         }
         return Next::More;
     }
     if run.maps == MOST_MAPS {
-        return Next::Last(put_long(out));
+        return Next::Last { end: put_long(out) };
     }
     map_step(src, ended, run, out)
 }

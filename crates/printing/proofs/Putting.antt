@@ -1,7 +1,7 @@
 -- Pieces put into the output one after the other: what stands at the front grows by each. The
 -- output is filled from the front, as the map writer fills its own.
 use mathlib.Core.Path.{◌≡◌, refl, sym, ap, ◌∙◌}
-use mathlib.Core.List.{List, ◌++◌, append_assoc}
+use mathlib.Core.List.{List, [], ◌++◌, append_assoc}
 use Prim.Native.Nat.{ℕ, ◌+◌, ◌-◌, ◌≤◌}
 use native.Mathlib.Omega.{arith}
 use lib.ListN.{length, take, drop, length-append, take-append-drop}
@@ -29,6 +29,10 @@ pub part_put : (out : List ℕ) (at end : ℕ) (part : List ℕ) → at ≤ end 
 part_put out at end part h l kept =
     let whole : at ≤ length out = omega arith in
     filled_put out at end part _ whole (filled_part (take at out) at out out (filled_self at out whole) end part h l kept)
+
+-- Nothing is put there yet.
+pub put_none : {out : List ℕ} {at : ℕ} → at ≤ length out → Put out at [] out at
+put_none {out} {at} l = record { size = omega arith; fits = l; is = sym (take-append-drop at out) }
 
 -- A piece put at the front, and the other way round.
 pub put_front : {out piece after : List ℕ} {end : ℕ} → Put out 0 piece after end → Filled piece end out after

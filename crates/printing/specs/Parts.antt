@@ -1,6 +1,6 @@
 -- How a piece of text stands in an output.
-use Rattle.std.specs.Prelude.{◌≡◌, List, [], ◌∷◌, ◌++◌, ℕ, ◌+◌, ◌≤◌, length, take, drop}
-use Rattle.printing.specs.Printed.{most_printed, Printed}
+use Rattle.std.specs.Prelude.{◌≡◌, List, [], ◌∷◌, ◌++◌, ℕ, ◌+◌, ◌*◌, ◌≤◌, length, take, drop}
+use Rattle.printing.specs.Printed.{most_printed, number_room, Printed, Line}
 
 -- A piece stands in the output from a place on, up to its end. All else is as it was.
 pub record Put (out : List ℕ) (at : ℕ) (piece after : List ℕ) (end : ℕ) : Type 0 where
@@ -20,3 +20,8 @@ pub record NumberThen (v mark : ℕ) (l : List ℕ) : Type 0 where
   pub printed : Printed v digits
   pub few : length digits ≤ most_printed
   pub is : l ≡ digits ++ mark ∷ []
+
+-- A line of numbers, and that it takes their room at most.
+pub record NumbersLine (vs l : List ℕ) : Type 0 where
+  pub line : Line vs l
+  pub few : length l ≤ length vs * number_room

@@ -1,10 +1,11 @@
-// What any program prints: numbers, bytes and a refusal's line, put into an output slice. Each
-// hands back where what it put ends, and leaves the rest of the output as it was.
+// What any program prints: numbers, lines of numbers, bytes and a refusal's line, put into an
+// output slice. Each hands back where what it put ends, and leaves the rest of the output as it
+// was.
 #![tactic(auto)]
 
-ghost use Rattle.std.specs.Prelude.{◌+◌, ◌≤◌, ◌++◌, length};
+ghost use Rattle.std.specs.Prelude.{◌+◌, ◌*◌, ◌≤◌, ◌++◌, length};
 ghost use Rattle.printing.specs.Printed.{number_room, refused, long, RefusalLine};
-ghost use Rattle.printing.specs.Parts.{Put, Puts, NumberThen};
+ghost use Rattle.printing.specs.Parts.{Put, Puts, NumberThen, NumbersLine};
 
 // Room for a number and one byte after it: no usize has more than 20 decimal digits.
 pub const NUMBER: usize = 21;
@@ -20,15 +21,29 @@ pub fn put_number(out: &mut [u8], at: usize, v: usize, mark: u8) -> usize
     end + 1
 }
 
+// Writes a line of numbers from the place `at` on, with a space between and LF after the last, and
+// hands back where it ends.
+pub fn put_line(out: &mut [u8], at: usize, numbers: &[usize]) -> usize
+    requires some { 1 ≤ length numbers.now }
+    requires room { at + length numbers.now * number_room ≤ length out.old }
+    ensures { Puts (NumbersLine numbers.now) out.old at out.new result }
+{
+    let last = numbers.len() - 1;
+    let mut end = at;
+    for v in &numbers[..last] {
+        end = put_number(out, end, *v, b' ');
+    }
+    put_number(out, end, numbers[last], b'\n')
+}
+
 // Writes these bytes at the front of the output, and hands back where they end.
 pub fn put_bytes(out: &mut [u8], bytes: &[u8]) -> usize
     requires { length bytes.now ≤ length out.old }
     ensures { Put out.old 0 bytes.now out.new result }
 {
-    for i in 0..bytes.len() {
-        out[i] = bytes[i];
-    }
-    bytes.len()
+    let end = bytes.len();
+    out[..end].copy_from_slice(bytes);
+    end
 }
 
 // Writes a refusal's line: "refused", a space and the number.

@@ -4,3 +4,4 @@ mod PackedRows
 mod ReadingRows
 mod Reading
 mod ReadingPlain
+pub mod Sizes

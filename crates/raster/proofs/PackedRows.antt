@@ -64,12 +64,6 @@ module _ {w h : ℕ} {body bits : List ℕ} (r : RawRaster w h body bits) (k : �
     slice_is : take (length body - k * bytes) (drop (k * bytes) body) ≡ rest
     slice_is = rw e (take_all (length body - k * row_bytes w) rest (omega (arith, length-drop (k * row_bytes w) body)))
 
-    pub slice_within : k * bytes ≤ length body
-    slice_within = rw e (omega (arith, row_within))
-
-    pub slice_long : row_bytes w ≤ length (take (length body - k * bytes) (drop (k * bytes) body))
-    slice_long = rw slice_is (omega (arith, length-drop (k * row_bytes w) body, row_within))
-
     -- A row more of the bits passed.
     pub row_taken : take ((k + 1) * w) bits ≡ take (k * w) bits ++ row_bits (take (length body - k * bytes) (drop (k * bytes) body)) w
     row_taken = rw slice_is (ap (λ (i : ℕ). take i bits) next ∙ columns w (omega arith))

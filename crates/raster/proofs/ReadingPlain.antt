@@ -15,6 +15,7 @@ use Rattle.mapfile.specs.Raster.{
   one_digit,
   PlainRaster,
   PlainByte,
+  PlainFault,
   is_blank,
   is_zero,
   is_one,
@@ -26,11 +27,13 @@ use Rattle.mapfile.specs.RasterWorking.{blank_no_bit}
 use Rattle.mapfile.specs.RasterLaws.{digits_append}
 use Rattle.mapfile.specs.File.{plain}
 use Rattle.mapfile.specs.MarkerLaws.{ones, ones-le, ones_snoc}
-use Rattle.raster.specs.RasterParts.{BitByte, zero_byte, one_byte, with_fault, BitRoom, ReadAs}
+use Rattle.raster.specs.RasterParts.{BitByte, zero_byte, one_byte, RasterIn}
+use Rattle.field.specs.Map.{Sides}
+use Rattle.field.specs.Refusals.{bad_header, short_raster, long_raster}
 use Rattle.field.specs.Limits.{crossing_slots, crossings_few}
 use Rattle.raster.proofs.Rows.{take_next, take_set}
 use Rattle.header.specs.Left.{left_cons}
-use Rattle.raster.proofs.Reading.{good_with, rocks_marked}
+use Rattle.raster.proofs.Reading.{rocks_marked}
 
 pub record ReadingPlain (w h : ℕ) (body out out' : List ℕ) (digits rocks i : ℕ) : Type 0 where
   pub within : i ≤ length body
@@ -63,9 +66,9 @@ foreign p q (is_blank e) = p e
 foreign p q (is_zero e) = q (zero_byte e)
 foreign p q (is_one e) = q (one_byte e)
 
-module _ {w h : ℕ} {body out out' : List ℕ} {digits rocks i : ℕ} (m : BitRoom w h out) (k : ReadingPlain w h body out out' digits rocks i) where
+module _ {w h : ℕ} {body out out' : List ℕ} {digits rocks i : ℕ} (sides : Sides w h) (room : h * w ≤ length out) (k : ReadingPlain w h body out out' digits rocks i) where
   digits_long : length (take digits out') ≡ digits
-  digits_long = length-take-le digits out' (omega (arith, k.few, k.size, m.room))
+  digits_long = length-take-le digits out' (omega (arith, k.few, k.size, room))
 
   pub reading_blank : i < length body → Blank (get_or body i 0) → ReadingPlain w h body out out' digits rocks (i + 1)
   reading_blank l b =
@@ -79,7 +82,7 @@ module _ {w h : ℕ} {body out out' : List ℕ} {digits rocks i : ℕ} (m : BitR
 
   -- There is room for one digit more.
   pub reading_room : ¬ (digits ≡ h * w) → digits < length out'
-  reading_room n = omega (arith, k.few, k.size, m.room)
+  reading_room n = omega (arith, k.few, k.size, room)
 
   pub reading_bit : i < length body → BitByte (get_or body i 0) → ¬ (digits ≡ h * w)
       → ReadingPlain w h body out (set out' digits (get_or body i 0 - 48)) (digits + 1) (rocks + (get_or body i 0 - 48)) (i + 1)
@@ -97,49 +100,35 @@ module _ {w h : ℕ} {body out out' : List ℕ} {digits rocks i : ℕ} (m : BitR
 
   -- No more rocks than digits, and no more digits than crossings.
   pub reading_few : rocks ≤ crossing_slots
-  reading_few = omega (arith, k.marked, digits_long, k.few, ones-le (take digits out'), crossings_few m.sides)
+  reading_few = omega (arith, k.marked, digits_long, k.few, ones-le (take digits out'), crossings_few sides)
 
   parted : i < length body → body ≡ take i body ++ get_or body i 0 ∷ drop (i + 1) body
   parted l = sym (take-append-drop i body) ∙ ap (λ (m : List ℕ). take i body ++ m) (left_cons body i l)
 
-  pub read_long : i < length body → ¬ Blank (get_or body i 0) → digits ≡ h * w → ReadAs plain w h body out' (with_fault 15)
+  pub read_long : i < length body → ¬ Blank (get_or body i 0) → digits ≡ h * w → PlainFault w h body long_raster
   read_long l b n =
-      record {
-        faulty = λ z. plain_long (take digits out') (take i body) (drop (i + 1) body) (get_or body i 0) k.passed (omega (arith, digits_long)) b (parted l) refl;
-        good = λ (e : ◌≡◌ {A = ℕ} 15 0). absurd (omega arith);
-      }
+      plain_long (take digits out') (take i body) (drop (i + 1) body) (get_or body i 0) k.passed (omega (arith, digits_long)) b (parted l) refl
 
   pub read_foreign : i < length body → ¬ Blank (get_or body i 0) → ¬ BitByte (get_or body i 0) → ¬ (digits ≡ h * w)
-      → ReadAs plain w h body out' (with_fault 13)
+      → PlainFault w h body bad_header
   read_foreign l b c n =
-      record {
-        faulty = λ z.
-            plain_foreign (take digits out') (take i body) (drop (i + 1) body) (get_or body i 0) k.passed (omega (arith, digits_long, k.few)) (foreign b c)
-            (parted l) refl;
-        good = λ (e : ◌≡◌ {A = ℕ} 13 0). absurd (omega arith);
-      }
+      plain_foreign (take digits out') (take i body) (drop (i + 1) body) (get_or body i 0) k.passed (omega (arith, digits_long, k.few)) (foreign b c)
+      (parted l) refl
 
   whole : length body ≤ i → Digits (take digits out') body
   whole l = subst (Digits (take digits out')) (take_all i body l) k.passed
 
-  pub read_short : length body ≤ i → digits < h * w → ReadAs plain w h body out' (with_fault 14)
+  pub read_short : length body ≤ i → digits < h * w → PlainFault w h body short_raster
   read_short l n =
-      record {
-        faulty = λ z. plain_short (take digits out') (whole l) (omega (arith, digits_long)) refl;
-        good = λ (e : ◌≡◌ {A = ℕ} 14 0). absurd (omega arith);
-      }
+      plain_short (take digits out') (whole l) (omega (arith, digits_long)) refl
 
-  pub read_good : length body ≤ i → h * w ≤ digits → ReadAs plain w h body out' (good_with rocks)
+  pub read_good : length body ≤ i → h * w ≤ digits → RasterIn plain w h body out' rocks
   read_good l n =
       record {
-        faulty = λ z. absurd (z refl);
-        good = λ e.
-            record {
-              raster =
-                  subst (λ (s : ℕ). PlainRaster w h body (take s out')) (sym same)
-                  (record { digits = whole l; crossings = omega (arith, digits_long, k.few) });
-              counted = rocks_marked w h (take (h * w) out') rocks (k.marked ∙ ap (λ (s : ℕ). ones (take s out')) (sym same));
-            };
+        raster =
+            subst (λ (s : ℕ). PlainRaster w h body (take s out')) (sym same)
+            (record { digits = whole l; crossings = omega (arith, digits_long, k.few) });
+        counted = rocks_marked w h (take (h * w) out') rocks (k.marked ∙ ap (λ (s : ℕ). ones (take s out')) (sym same));
       }
     where
       same : h * w ≡ digits

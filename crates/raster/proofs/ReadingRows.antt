@@ -1,12 +1,13 @@
 -- Packed rows being read, row by row: the bits of the rows passed stand at the front, and so many
 -- of them are rocks.
-use mathlib.Core.Path.{◌≡◌, refl, sym, ap, subst, ◌∙◌}
+use mathlib.Core.Path.{◌≡◌, refl, sym, ap, ◌∙◌}
 use mathlib.Core.List.{List, [], ◌∷◌, ◌++◌, append_assoc, append-nil}
 use Prim.Native.Nat.{ℕ, ◌+◌, ◌*◌, ◌<◌, ◌≤◌}
 use native.Mathlib.Omega.{arith}
 use native.Mathlib.Nat.{zero-mul, add-zero, mul-le-mul_right}
 use lib.ListN.{length, take, set, length-take, length-set}
 use lib.Seq.{take_all}
+use Rattle.field.specs.Map.{Sides}
 use Rattle.field.specs.Limits.{crossing_slots, crossings_few}
 use Rattle.mapfile.specs.Raster.{RawRaster}
 use Rattle.mapfile.specs.RasterWorking.{raw_bits}
@@ -46,10 +47,6 @@ row_more {row} {out} {out'} {at} {x} {rocks} {b} i l e =
     last : row_bits row x ++ row_bit row x ∷ [] ≡ row_bits row (x + 1)
     last = sym (row_next row x)
 
-pub row_end : {row out out' : List ℕ} {w at x rocks : ℕ} → InRow row at x out out' rocks → x ≡ w → RowRead row w at out out' rocks
-row_end {row} {out} {out'} {w} {at} {x} {rocks} i e =
-    subst (λ (n : ℕ). RowRead row n at out out' rocks) e (record { bits = i.bits; counted = i.counted })
-
 -- After k rows.
 pub record AfterRows (w h : ℕ) (body out out' : List ℕ) (rocks k : ℕ) : Type 0 where
   pub within : k ≤ h
@@ -57,9 +54,9 @@ pub record AfterRows (w h : ℕ) (body out out' : List ℕ) (rocks k : ℕ) : Ty
   pub bits : take (k * w) out' ≡ take (k * w) (raw_bits w h body)
   pub counted : rocks ≡ ones (take (k * w) (raw_bits w h body))
 
-module _ {w h : ℕ} {body out : List ℕ} (r : MayReadRows w h body out) where
+module _ {w h : ℕ} {body out : List ℕ} (s : Sides w h) (r : MayReadRows w h body out) where
   pub raster : RawRaster w h body (raw_bits w h body)
-  raster = raw_raster w h body r.rows.size
+  raster = raw_raster w h body r.size
 
   pub rows_start : AfterRows w h body out out 0 0
   unfolding ones
@@ -72,15 +69,11 @@ module _ {w h : ℕ} {body out : List ℕ} (r : MayReadRows w h body out) where
         omega (
           arith,
           c.counted,
-          crossings_few r.rows.sides,
+          crossings_few s,
           ones-le (take (k * w) (raw_bits w h body)),
           length-take (k * w) (raw_bits w h body),
           raster.crossings,
         )
-
-    -- There is room for one row more.
-    pub rows_room : k < h → k * w + w ≤ length out'
-    rows_room l = omega (arith, c.size, r.room, mul-le-mul_right {m = k + 1} {n = h} w (omega arith))
 
     pub rows_more : {out'' : List ℕ} {more : ℕ} (row : List ℕ) → k < h → length out'' ≡ length out'
         → take ((k + 1) * w) (raw_bits w h body) ≡ take (k * w) (raw_bits w h body) ++ row_bits row w → RowRead row w (k * w) out' out'' more

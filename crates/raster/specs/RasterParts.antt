@@ -1,12 +1,14 @@
 -- What each part of reading a raster promises: the bits of its packed rows, and what is found of
 -- the whole.
-use Rattle.std.specs.Prelude.{◌≡◌, Bool, true, false, List, [], ◌∷◌, ◌++◌, ℕ, zero, suc, ◌+◌, ◌*◌, ◌-◌, ◌/◌, ◌%◌, ◌^◌, ◌≤◌, length, get_or, take}
-use Rattle.field.specs.Map.{Sides}
+use Rattle.std.specs.Prelude.{◌≡◌, Result, Ok, Err, List, [], ◌∷◌, ◌++◌, ℕ, zero, suc, ◌+◌, ◌*◌, ◌-◌, ◌/◌, ◌%◌, ◌^◌, ◌≤◌, length, get_or, take}
+use Rattle.field.specs.declared.refusals.Refusal.{Refusal}
+use Rattle.field.specs.Refusals.{number_of}
 use Rattle.mapfile.specs.Raster.{row_bytes}
 use Rattle.mapfile.specs.RasterWorking.{raw_bits}
 use Rattle.mapfile.specs.File.{Format, plain, raw, Raster, RasterFault, markers_of}
 use Rattle.mapfile.specs.MarkerLaws.{ones}
-use Rattle.raster.specs.declared.Judged.{Judged}
+use Rattle.raster.specs.declared.Format.{Format as CodeFormat}
+use Rattle.raster.specs.declared.Format.TheVariants.{Plain, Raw}
 
 -- The bit of column x in a packed row: "highest bit westmost, 1 a rock".
 unfoldable pub row_bit : List ℕ → ℕ → ℕ
@@ -17,29 +19,15 @@ unfoldable pub row_bits : List ℕ → ℕ → List ℕ
 row_bits row zero = []
 row_bits row (suc x) = row_bits row x ++ row_bit row x ∷ []
 
--- The bytes are the packed rows, and nothing more.
-pub record RawRows (w h : ℕ) (body : List ℕ) : Type 0 where
-  pub sides : Sides w h
-  pub size : length body ≡ h * row_bytes w
-
--- A raster that is refused for this fault.
-abbrev pub with_fault : ℕ → Judged
-with_fault n = record { fault = n; rocks = 0 }
-
--- Reading a raster asks for a byte for each bit.
-pub record BitRoom (w h : ℕ) (out : List ℕ) : Type 0 where
-  pub sides : Sides w h
-  pub room : h * w ≤ length out
-
 -- The raster's bits stand in raster order at the front of `out`, one a byte; so many are rocks.
 pub record RasterIn (f : Format) (w h : ℕ) (body out : List ℕ) (rocks : ℕ) : Type 0 where
   pub raster : Raster f w h body (take (h * w) out)
   pub counted : rocks ≡ length (markers_of w h (take (h * w) out))
 
--- A raster read: its first fault, or its bits and its rocks.
-pub record ReadAs (f : Format) (w h : ℕ) (body out : List ℕ) (j : Judged) : Type 0 where
-  pub faulty : ¬ (j.fault ≡ 0) → RasterFault f w h body j.fault
-  pub good : j.fault ≡ 0 → RasterIn f w h body out j.rocks
+-- A raster read: its bits and its rocks, or its first fault.
+abbrev pub ReadAs : Format → ℕ → ℕ → List ℕ → List ℕ → Result ℕ Refusal → Type 0
+ReadAs f w h body out (Ok rocks) = RasterIn f w h body out rocks
+ReadAs f w h body out (Err r) = RasterFault f w h body (number_of r)
 
 -- Reading a row asks for its bytes, and for a byte for each bit from `at` on.
 pub record MayReadRow (row : List ℕ) (w at : ℕ) (out : List ℕ) : Type 0 where
@@ -51,9 +39,9 @@ pub record RowRead (row : List ℕ) (w at : ℕ) (out out' : List ℕ) (r : ℕ)
   pub bits : take (at + w) out' ≡ take at out ++ row_bits row w
   pub counted : r ≡ ones (row_bits row w)
 
--- The same of all rows.
+-- The same of all rows: the bytes are the packed rows, and nothing more.
 pub record MayReadRows (w h : ℕ) (body out : List ℕ) : Type 0 where
-  pub rows : RawRows w h body
+  pub size : length body ≡ h * row_bytes w
   pub room : h * w ≤ length out
 
 pub record RowsRead (w h : ℕ) (body out : List ℕ) (r : ℕ) : Type 0 where
@@ -65,7 +53,7 @@ pub data BitByte (b : ℕ) : Type 0 where
   zero_byte : b ≡ 48 → BitByte b
   one_byte : b ≡ 49 → BitByte b
 
--- The format that the code calls plain, and the other.
-abbrev pub format_of : Bool → Format
-format_of true = plain
-format_of false = raw
+-- The grammar's format for the code's.
+abbrev pub format_of : CodeFormat → Format
+format_of Plain = plain
+format_of Raw = raw

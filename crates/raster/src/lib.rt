@@ -6,41 +6,33 @@
 mod plain;
 mod raw;
 
-ghost use Rattle.std.specs.Prelude.{◌≡◌, ℕ, ◌≤◌};
-ghost use Rattle.field.specs.Map.{side};
+ghost use Rattle.std.specs.Prelude.{◌≡◌, ℕ, ◌*◌, ◌≤◌, length};
 ghost use Rattle.mapfile.specs.Raster.{row_bytes};
-ghost use Rattle.raster.specs.RasterParts.{with_fault, BitRoom, ReadAs, format_of};
+ghost use Rattle.raster.specs.RasterParts.{ReadAs, format_of};
 
-// What reading a raster finds: the number of its first fault, or 0; and how many of its bits are
-// rocks.
-#[derive(Clone, Copy)]
-pub struct Judged {
-    pub fault: u8,
-    pub rocks: usize,
+use field::{Refusal, Size};
+
+// The two formats of a map file: P1 and P4.
+#[derive(Clone, Copy, Debug, PartialEq, Eq)]
+pub enum Format {
+    Plain,
+    Raw,
 }
 
 // How many bytes a packed row has: eight crossings to a byte.
 pub fn row_bytes(w: usize) -> usize
-    requires { w ≤ side }
     ensures { result ≡ row_bytes w }
 {
-    (w + 7) / 8
+    w.div_ceil(8)
 }
 
-// A raster that is refused for this fault.
-pub(crate) fn faulty(fault: u8) -> Judged
-    ensures { result ≡ with_fault fault }
+// Reads a raster of either format: the answer is how many of its bits are rocks.
+pub fn read(format: Format, body: &[u8], map: Size, bits: &mut [u8]) -> Result<usize, Refusal>
+    requires { map.h * map.w ≤ length bits.old }
+    ensures { ReadAs (format_of format) map.w map.h body.now bits.new result }
 {
-    Judged { fault, rocks: 0 }
-}
-
-// Reads a raster of either format.
-pub fn read(plain: bool, body: &[u8], w: usize, h: usize, bits: &mut [u8]) -> Judged
-    requires { BitRoom w h bits.old }
-    ensures { ReadAs (format_of plain) w h body.now bits.new result }
-{
-    if plain {
-        return plain::read_plain(body, w, h, bits);
+    match format {
+        Format::Plain => plain::read_plain(body, map, bits),
+        Format::Raw => raw::read_raw(body, map, bits),
     }
-    raw::read_raw(body, w, h, bits)
 }

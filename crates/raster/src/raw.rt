@@ -1,12 +1,10 @@
 // The P4 raster: "each row is packed eight crossings to a byte, highest bit westmost, 1 a rock".
-ghost use Rattle.std.specs.Prelude.{◌≡◌, ℕ, ◌/◌, ◌<◌, ◌≤◌, length};
-ghost use Rattle.field.specs.Map.{side};
-ghost use Rattle.mapfile.specs.Raster.{row_bytes};
+ghost use Rattle.std.specs.Prelude.{◌≡◌, ℕ, ◌*◌, ◌/◌, ◌<◌, ◌≤◌, length};
 ghost use Rattle.mapfile.specs.File.{raw};
-ghost use Rattle.raster.specs.RasterParts.{row_bit, BitRoom, ReadAs, MayReadRow, RowRead, MayReadRows, RowsRead};
+ghost use Rattle.raster.specs.RasterParts.{row_bit, ReadAs, MayReadRow, RowRead, MayReadRows, RowsRead};
 
-use super::{Judged, faulty, row_bytes};
-use field::refusals::{LONG_RASTER, SHORT_RASTER};
+use super::row_bytes;
+use field::{Refusal, Size};
 
 // The bit of column x in a packed row: "highest bit westmost, 1 a rock".
 fn bit_at(row: &[u8], x: usize) -> u8
@@ -23,44 +21,39 @@ fn read_row(row: &[u8], w: usize, at: usize, bits: &mut [u8]) -> usize
     ensures { RowRead row.now w at bits.old bits.new result }
 {
     let mut rocks: usize = 0;
-    let mut x = 0;
-    while x < w {
+    for x in 0..w {
         let b = bit_at(row, x);
         bits[at + x] = b;
-        rocks += b as usize;
-        x += 1;
+        rocks += usize::from(b);
     }
     rocks
 }
 
 // Reads the packed rows. "The first raster row is the northmost": the bits keep the rows' order.
-fn read_rows(body: &[u8], w: usize, h: usize, bits: &mut [u8]) -> usize
-    requires { MayReadRows w h body.now bits.old }
-    ensures { RowsRead w h body.now bits.new result }
+fn read_rows(body: &[u8], map: Size, bits: &mut [u8]) -> usize
+    requires { MayReadRows map.w map.h body.now bits.old }
+    ensures { RowsRead map.w map.h body.now bits.new result }
 {
-    let bytes = row_bytes(w);
+    let bytes = row_bytes(map.w);
     let mut rocks: usize = 0;
-    for k in 0..h {
+    for k in 0..map.h {
         let from = k * bytes;
-        rocks += read_row(&body[from..], w, k * w, bits);
+        rocks += read_row(&body[from..], map.w, k * map.w, bits);
     }
     rocks
 }
 
 // Reads a P4 raster: as many bytes as the rows have, or it ends early, or there are bytes after it.
-pub(crate) fn read_raw(body: &[u8], w: usize, h: usize, bits: &mut [u8]) -> Judged
-    requires { BitRoom w h bits.old }
-    ensures { ReadAs raw w h body.now bits.new result }
+pub(crate) fn read_raw(body: &[u8], map: Size, bits: &mut [u8]) -> Result<usize, Refusal>
+    requires { map.h * map.w ≤ length bits.old }
+    ensures { ReadAs raw map.w map.h body.now bits.new result }
 {
-    let size = h * row_bytes(w);
+    let size = map.h * row_bytes(map.w);
     if body.len() < size {
-        return faulty(SHORT_RASTER);
+        return Err(Refusal::ShortRaster);
     }
     if size < body.len() {
-        return faulty(LONG_RASTER);
+        return Err(Refusal::LongRaster);
     }
-    Judged {
-        fault: 0,
-        rocks: read_rows(body, w, h, bits),
-    }
+    Ok(read_rows(body, map, bits))
 }

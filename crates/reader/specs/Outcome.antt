@@ -1,15 +1,17 @@
 -- Reading has one outcome: two answers that the promise allows for the same file and list are
 -- equal, and so are a map's bits. A file is one map at most and has one fault at most; with a fault
 -- it is no map, and a map's rocks either find a slot each or do not.
-use Rattle.std.specs.Prelude.{◌≡◌, List, ◌⊎◌, ℕ, ◌*◌, ◌<◌, length, take}
+use Rattle.std.specs.Prelude.{◌≡◌, Result, Ok, Err, List, ◌⊎◌, ℕ, ◌*◌, ◌<◌, length, take}
 use Rattle.std.proofs.Common.{sym, ap, ◌∙◌, inl, inr, arith}
+use Rattle.field.specs.declared.Reading.{Reading}
+use Rattle.field.specs.declared.Size.{Size}
+use Rattle.field.specs.declared.refusals.Refusal.{Refusal}
 use Rattle.field.specs.Map.{most_markers}
 use Rattle.field.specs.Refusals.{no_slot}
 use Rattle.mapfile.specs.File.{MapFile, markers_of, FileFault, NoSlot}
 use Rattle.mapfile.proofs.FileLaws.{map_file_one, file_fault_one, fault_no_map}
 use Rattle.reader.specs.Promise.{MapTaken, Reads}
-use Rattle.reader.specs.declared.Reading.{Reading}
-use Rattle.reader.specs.declared.Reading.TheVariants.{Map, Refused}
+use Rattle.raster.proofs.Sizes.{sizes_same, refusals_same}
 
 -- One map has the same markers.
 map_markers : {file : List ℕ} {w h w' h' : ℕ} {bits bits' : List ℕ} → MapFile file w h bits → MapFile file w' h' bits'
@@ -19,15 +21,16 @@ map_markers a b = let e = map_file_one a b in rw (e.0, e.1, e.2)
 abbrev Faulty : List ℕ → ℕ → ℕ → Type 0
 Faulty file lent n = FileFault file n ⊎ (NoSlot file lent × (n ≡ no_slot))
 
+abbrev found : Size → ℕ → Reading
+found m rocks = record { map = m; rocks = rocks }
+
 module _ {file : List ℕ} {lent : ℕ} where
-  taken_one : {w h count w' h' count' : ℕ} {out out' : List ℕ} → MapTaken file lent w h count out → MapTaken file lent w' h' count' out'
-      → Map w h count ≡ Map w' h' count'
-  taken_one {w} {h} {count} {w'} {h'} {count'} a b =
+  taken_one : (m m' : Reading) {out out' : List ℕ} → MapTaken file lent m.map.w m.map.h m.rocks out → MapTaken file lent m'.map.w m'.map.h m'.rocks out' → m ≡ m'
+  taken_one m m' a b =
       let e = map_file_one a.map b.map in
-      let c : count ≡ count' = a.counted ∙ ap length (map_markers a.map b.map) ∙ sym b.counted in
-      let p : w ≡ w' = e.0 in
-      let q : h ≡ h' = e.1 in
-      cc
+      let s : m.map ≡ m'.map = sizes_same m.map m'.map e.0 e.1 in
+      let c : m.rocks ≡ m'.rocks = a.counted ∙ ap length (map_markers a.map b.map) ∙ sym b.counted in
+      ap (λ (n : Size). found n m.rocks) s ∙ ap (found m'.map) c
 
   -- The bits of one map are the same.
   pub taken_bits : {w h count w' h' count' : ℕ} {out out' : List ℕ} → MapTaken file lent w h count out → MapTaken file lent w' h' count' out'
@@ -50,8 +53,8 @@ module _ {file : List ℕ} {lent : ℕ} where
   refused_one (inr o) (inr p) = o.1 ∙ sym p.1
 
 -- Two outcomes of reading the same file for as many slots.
-pub reads_one : (file : List ℕ) (lent : ℕ) (out out' : List ℕ) (r r' : Reading) → Reads file lent out r → Reads file lent out' r' → r ≡ r'
-reads_one file lent out out' (Map w h count) (Map w' h' count') a b = taken_one a b
-reads_one file lent out out' (Map w h count) (Refused n) a b = absurd (taken_not_refused a b)
-reads_one file lent out out' (Refused n) (Map w h count) a b = absurd (taken_not_refused b a)
-reads_one file lent out out' (Refused n) (Refused m) a b = ap Refused (refused_one a b)
+pub reads_one : (file : List ℕ) (lent : ℕ) (out out' : List ℕ) (r r' : Result Reading Refusal) → Reads file lent out r → Reads file lent out' r' → r ≡ r'
+reads_one file lent out out' (Ok m) (Ok m') a b = ap Ok (taken_one m m' a b)
+reads_one file lent out out' (Ok m) (Err n) a b = absurd (taken_not_refused a b)
+reads_one file lent out out' (Err n) (Ok m) a b = absurd (taken_not_refused b a)
+reads_one file lent out out' (Err n) (Err m) a b = ap Err (refusals_same n m (refused_one a b))

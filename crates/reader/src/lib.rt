@@ -7,119 +7,67 @@ ghost use Rattle.std.specs.Prelude.{◌≡◌, true, ◌↔◌, ℕ, ◌*◌, �
 ghost use Rattle.field.specs.Map.{side};
 ghost use Rattle.reader.specs.Promise.{Reads};
 ghost use Rattle.reader.specs.LettersParts.{LettersRead};
-ghost use Rattle.raster.specs.RasterParts.{BitRoom, format_of};
-ghost use Rattle.reader.specs.ReadingParts.{HasRoom, RasterRefusal, RasterReads, MayReadMap};
+ghost use Rattle.raster.specs.RasterParts.{format_of};
+ghost use Rattle.reader.specs.ReadingParts.{HasRoom, RasterReads, MayReadMap};
 
-use field::MOST_MARKERS;
-use field::refusals::{BAD_HEADER, BAD_LETTERS, BAD_SIZE, NO_SLOT};
-use header::Head;
-use raster::Judged;
+use field::{MOST_MARKERS, Reading, Refusal, Size};
+use raster::Format;
 
-// What reading a file finds: a map's width, height and number of rocks; or the number of the
-// refusal.
-#[derive(Clone, Copy)]
-pub enum Reading {
-    Map(usize, usize, usize),
-    Refused(u8),
-}
-
-// Which format the file's first two bytes name.
-#[derive(Clone, Copy)]
-enum Letters {
-    Plain,
-    Raw,
-    Neither,
-}
-
-// "The file starts with the two bytes P1 or P4."
-fn first_two(src: &[u8]) -> Letters
+// The format that the file's first two bytes name: "The file starts with the two bytes P1 or P4."
+fn first_two(src: &[u8]) -> Option<Format>
     ensures { LettersRead src.now result }
 {
     if header::begins(src, b"P1") {
-        return Letters::Plain;
+        return Some(Format::Plain);
     }
     if header::begins(src, b"P4") {
-        return Letters::Raw;
+        return Some(Format::Raw);
     }
-    Letters::Neither
+    None
 }
 
 // Whether the rocks find a slot each: they pass neither the list lent nor the limit.
 fn has_room(rocks: usize, lent: usize) -> bool
     ensures { (result ≡ true) ↔ HasRoom rocks lent }
 {
-    if lent < rocks {
-        return false;
-    }
-    if MOST_MARKERS < rocks {
-        return false;
-    }
-    true
+    rocks <= lent && rocks <= MOST_MARKERS
 }
 
-// The refusal of a raster that was read, or 0: "at the first fault met 13, 14 or 15, then 7".
-fn refusal(judged: Judged, lent: usize) -> u8
-    ensures { RasterRefusal judged lent result }
-{
-    let fault = judged.fault;
-    let room = has_room(judged.rocks, lent);
-    if fault != 0 {
-        return fault;
-    }
-    if !room {
-        return NO_SLOT;
-    }
-    0
-}
-
-// Reads the raster, for a list of `lent` slots.
+// Reads the raster, for a list of `lent` slots: "at the first fault met 13, 14 or 15, then 7".
 fn read_raster(
-    plain: bool,
+    format: Format,
     body: &[u8],
-    w: usize,
-    h: usize,
+    map: Size,
     lent: usize,
     bits: &mut [u8],
-) -> Reading
-    requires { BitRoom w h bits.old }
-    ensures { RasterReads (format_of plain) w h body.now lent bits.new result }
+) -> Result<Reading, Refusal>
+    requires { map.h * map.w ≤ length bits.old }
+    ensures { RasterReads (format_of format) map body.now lent bits.new result }
 {
-    let judged = raster::read(plain, body, w, h, bits);
-    let n = refusal(judged, lent);
-    if n != 0 {
-        return Reading::Refused(n);
+    let rocks = raster::read(format, body, map, bits)?;
+    if !has_room(rocks, lent) {
+        return Err(Refusal::NoSlot);
     }
-    Reading::Map(w, h, judged.rocks)
+    Ok(Reading { map, rocks })
 }
 
 // Reads what follows the letters of a format. "the raster begins right after that one blank byte".
-fn read_map(src: &[u8], plain: bool, lent: usize, bits: &mut [u8]) -> Reading
-    requires { MayReadMap (format_of plain) src.now bits.old }
+fn read_map(src: &[u8], format: Format, lent: usize, bits: &mut [u8]) -> Result<Reading, Refusal>
+    requires { MayReadMap (format_of format) src.now bits.old }
     ensures { Reads src.now lent bits.new result }
 {
     let mut sides = [0usize; 2];
-    let head = header::header(src, 2, &mut sides);
-    let Head::Body(at) = head else {
-        return Reading::Refused(BAD_HEADER);
-    };
-    let w = sides[0];
-    let h = sides[1];
-    if !sheets::sized(w, h) {
-        return Reading::Refused(BAD_SIZE);
-    }
-    read_raster(plain, &src[at..], w, h, lent, bits)
+    let at = header::header(src, 2, &mut sides).ok_or(Refusal::BadHeader)?;
+    let map = sheets::sized(sides[0], sides[1]).ok_or(Refusal::BadSize)?;
+    read_raster(format, &src[at..], map, lent, bits)
 }
 
 // Reads a map file, for a list of `lent` slots. Its bits go into lent bytes, in raster order; at a
 // refusal these hold nothing of use.
-pub fn read(src: &[u8], lent: usize, bits: &mut [u8]) -> Reading
+pub fn read(src: &[u8], lent: usize, bits: &mut [u8]) -> Result<Reading, Refusal>
     requires { side * side ≤ length bits.old }
     ensures { Reads src.now lent bits.new result }
 {
-    let letters = first_two(src);
-    match letters {
-        Letters::Plain => read_map(src, true, lent, bits),
-        Letters::Raw => read_map(src, false, lent, bits),
-        Letters::Neither => Reading::Refused(BAD_LETTERS),
-    }
+    let format = first_two(src).ok_or(Refusal::BadLetters)?;
+    read_map(src, format, lent, bits)
 }

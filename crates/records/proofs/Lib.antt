@@ -1,6 +1,6 @@
--- What the loops of the code keep true, as laws of lists of markers: one module for each loop.
-mod Forming
-mod Stamping
-mod Opening
-mod Closing
-mod Showing
+-- What the code's loops keep true, and what its searches find, as laws of lists of markers.
+pub mod Forming
+pub mod Stamping
+pub mod Seeking
+pub mod Opening
+pub mod Showing

@@ -1,7 +1,6 @@
 -- Promises over a lent list of marker records with its count, in the words of the list's meanings.
 use Rattle.std.specs.Prelude.{◌≡◌, Bool, true, false, List, ℕ, ◌*◌, ◌<◌, ◌≤◌, length, get_or}
 use Rattle.field.specs.declared.Marker.{Marker}
-use Rattle.field.specs.Map.{Sides}
 use Rattle.field.specs.Labels.{Rock, RockOn}
 use Rattle.field.specs.Workings.Sheet.{Draws}
 use Rattle.markers.specs.List.{slot, WellFormed, InUse, in_use_of}
@@ -10,7 +9,7 @@ use Rattle.markers.specs.Promise.{Rising}
 pub use Rattle.markers.specs.Promise.{Enters, Clears}
 
 -- Where the id stands or belongs: every marker before has a lower id, none from there on has.
-pub record Place (list : List Marker) (count id r : ℕ) : Type 0 where
+pub record Belongs (list : List Marker) (count id r : ℕ) : Type 0 where
   pub within : r ≤ count
   pub lower : (k : ℕ) → k < r → (slot list k).id < id
   pub higher : (k : ℕ) → r ≤ k → k < count → id ≤ (slot list k).id
@@ -26,9 +25,8 @@ pub record MayClear (list : List Marker) (count id : ℕ) : Type 0 where
   pub rising : Rising list count
   pub used : InUse list count id
 
--- What stamping a sheet asks, and looking at one: a well-formed list and a sheet of the map's size.
+-- What stamping a sheet asks: a well-formed list and a sheet of the map's size.
 pub record MayStamp (w h : ℕ) (list : List Marker) (count : ℕ) (sheet : List ℕ) : Type 0 where
-  pub sides : Sides w h
   pub formed : WellFormed w h list count
   pub size : length sheet ≡ h * w
 

@@ -1,5 +1,4 @@
--- What is found, as the promise says it: an end closed, both ends open and no shortest drive, or
--- some.
+-- What is found between open ends, as the promise says it: no shortest drive, or some.
 use mathlib.Core.Path.{◌≡◌, refl}
 use mathlib.Core.List.{List}
 use mathlib.Core.Logic.{inl, inr}
@@ -12,8 +11,9 @@ use Rattle.field.specs.Drives.{HasDrive, InRegion, InOut, is_in, is_out, RegionS
 use Rattle.field.specs.Workings.Sheet.{Marked, Crossing, crossing}
 use Rattle.field.proofs.Workings.DriveLaws.{has_drive_open, has_drive_open_end}
 use Rattle.calls.specs.Rules.{AnEndClosed}
-use Rattle.calls.specs.AfterLaws.{region_kept, region_zeros, region_made}
-use Rattle.regions.specs.declared.Found.TheVariants.{EndClosed, Nowhere, Somewhere}
+use Rattle.calls.specs.AfterLaws.{region_zeros, region_made}
+use Rattle.field.specs.declared.refusals.Refusal.TheVariants.{NoDrive}
+use Rattle.std.specs.Prelude.{Ok, Err}
 use Rattle.regions.specs.Promise.{Regioned}
 
 -- Where there is no shortest drive no crossing is in the region, and its sheet is all 0, as past
@@ -34,15 +34,8 @@ module _ {w h sx sy dx dy : ℕ} {C : ℕ → ℕ → Type 0} (none : ¬ HasDriv
       go (no m) = get_or-eq_default g 0 (omega (arith, sheet.size))
 
 module _ {w h : ℕ} (s : List ℕ) {sx sy dx dy : ℕ} {g : List ℕ} where
-  pub finds_closed : AnEndClosed (Marked s w h) sx sy dx dy → Regioned w h s sx sy dx dy g g EndClosed
-  finds_closed c =
-      record {
-        given = inl (c, refl);
-        region_after = region_kept (omega arith, omega arith);
-      }
-
   pub finds_none : Open w h (Marked s w h) sx sy → Open w h (Marked s w h) dx dy → ¬ HasDrive w h (Marked s w h) sx sy dx dy → {g' : List ℕ} → RegionSheet w h (Marked s w h) sx sy dx dy g'
-      → Regioned w h s sx sy dx dy g g' Nowhere
+      → Regioned w h s sx sy dx dy g g' (Err NoDrive)
   finds_none o q n r =
       record {
         given = inr (open-ends, inl (record { from = o; to = q; none = n }, refl));
@@ -53,7 +46,7 @@ module _ {w h : ℕ} (s : List ℕ) {sx sy dx dy : ℕ} {g : List ℕ} where
       open-ends (inl c) = o.free c
       open-ends (inr c) = q.free c
 
-  pub finds_some : HasDrive w h (Marked s w h) sx sy dx dy → {g' : List ℕ} → RegionSheet w h (Marked s w h) sx sy dx dy g' → Regioned w h s sx sy dx dy g g' Somewhere
+  pub finds_some : HasDrive w h (Marked s w h) sx sy dx dy → {g' : List ℕ} → RegionSheet w h (Marked s w h) sx sy dx dy g' → Regioned w h s sx sy dx dy g g' (Ok tt)
   finds_some v r =
       record {
         given = inr (open-ends, inr (λ k. k.none v, refl));

@@ -1,22 +1,26 @@
 -- Laws of numbers and of looks at a sheet: what the tests of a hop towards an end come to.
 use mathlib.Core.Path.{◌≡◌, refl, sym, ap, ◌∙◌}
-use mathlib.Core.Bool.{Bool, true, false, ◌&&◌}
+use mathlib.Core.Bool.{Bool, true, false, not}
 use mathlib.Core.List.{List}
 use mathlib.Core.Logic.{◌↔◌, ◌≢◌}
-use Prim.Native.Nat.{ℕ}
+use Prim.Native.Nat.{ℕ, zero, suc}
+use Rattle.std.specs.Prelude.{nat_eq}
 use native.Mathlib.Omega.{arith}
-use native.Mathlib.Decide.{ℕ_discrete}
 use lib.Dec.{ltb, eqb}
-use lib.ListN.{get_or}
-use borrow.Author.Tests.{ltb-true, lt-ltb, le-ltb, eq-eqb, ne_eqb}
-use Rattle.field.specs.Map.{On, number, at, Apart}
+use borrow.Author.Tests.{ltb-true, lt-ltb, eq-eqb, ne_eqb}
+use Rattle.field.specs.Map.{On, at}
 use Rattle.field.specs.Workings.Tests.{off_looks}
 use Rattle.field.specs.Workings.Sheet.{Marked, bit, lit}
-use Rattle.field.proofs.Workings.Marks.{lit_marked, marked_lit, or_right}
+use Rattle.field.proofs.Workings.Marks.{lit_marked, marked_lit}
 use Rattle.field.specs.Workings.Looking.{hop_to}
 use Rattle.field.specs.Workings.Reaching.{east_west_in, north_south_in}
-use Rattle.regions.specs.Passes.{MayPass, backed}
+use Rattle.regions.specs.Promise.{Ends}
 use Rattle.regions.proofs.WayLaws.{hop_lt}
+
+-- A mark is what is not 0.
+some_mark : (v : ℕ) → not (nat_eq v 0) ≡ ltb 0 v
+some_mark zero = refl
+some_mark (suc v) = simp (ne_eqb (suc v) 0 (λ e. omega arith), lt-ltb 0 (suc v) (omega arith))
 
 -- A mark on the map, as a test.
 lit_on : (g : List ℕ) (w h x y : ℕ) → On w h x y → ltb 0 (lit g w h x y) ≡ ltb 0 (at g w x y)
@@ -40,7 +44,7 @@ pub north_south_tells : (g : List ℕ) (w h ey x y : ℕ) → ((y ≢ ey) × Mar
 unfolding north_south_in
 north_south_tells g w h ey x y = off_looks _ (marked_test g w h x (hop_to y ey)) y ey
 
-module _ {w h ex ey x y : ℕ} {g : List ℕ} (k : MayPass w h g ex ey x y) where
+module _ {w h ex ey x y : ℕ} (k : Ends w h ex ey x y) where
   -- The hop towards an end stays on the map.
   pub row_hop_on : ¬ (x ≡ ex) → On w h (hop_to x ex) y
   row_hop_on n = record { in_x = hop_lt n k.to.in_x k.from.in_x; in_y = k.to.in_y }
@@ -48,50 +52,23 @@ module _ {w h ex ey x y : ℕ} {g : List ℕ} (k : MayPass w h g ex ey x y) wher
   pub column_hop_on : ¬ (y ≡ ey) → On w h x (hop_to y ey)
   column_hop_on n = record { in_x = k.to.in_x; in_y = hop_lt n k.to.in_y k.from.in_y }
 
-  -- What the two tests look at; i is the number of the crossing.
-  pub east_west_off : x ≡ ex → false ≡ east_west_in g w h ex x y
+  -- What the two looks see is what their definitions look at.
+  pub east_west_looks : (g : List ℕ) {a v : ℕ} → ¬ (x ≡ ex) → a ≡ hop_to x ex → v ≡ at g w a y → not (nat_eq v 0) ≡ east_west_in g w h ex x y
+  unfolding east_west_in
+  east_west_looks g n p q = rw (q, p, ne_eqb x ex n) (some_mark _ ∙ sym (lit_on g w h (hop_to x ex) y (row_hop_on n)))
+
+  pub north_south_looks : (g : List ℕ) {b v : ℕ} → ¬ (y ≡ ey) → b ≡ hop_to y ey → v ≡ at g w x b → not (nat_eq v 0) ≡ north_south_in g w h ey x y
+  unfolding north_south_in
+  north_south_looks g n p q = rw (q, p, ne_eqb y ey n) (some_mark _ ∙ sym (lit_on g w h x (hop_to y ey) (column_hop_on n)))
+
+module _ (g : List ℕ) (w h ex ey x y : ℕ) where
+  pub east_west_off : x ≡ ex → not (nat_eq x ex) ≡ east_west_in g w h ex x y
   unfolding east_west_in
   east_west_off e = simp (eq-eqb x ex e)
 
-  pub east_west_looks : {a i : ℕ} → ¬ (x ≡ ex) → a ≡ hop_to x ex → i ≡ number w a y → ltb 0 (get_or g i 0) ≡ east_west_in g w h ex x y
-  unfolding east_west_in
-  east_west_looks n p q = rw (q, p, ne_eqb x ex n) (sym (lit_on g w h (hop_to x ex) y (row_hop_on n)))
-
-  pub north_south_off : y ≡ ey → false ≡ north_south_in g w h ey x y
+  pub north_south_off : y ≡ ey → not (nat_eq y ey) ≡ north_south_in g w h ey x y
   unfolding north_south_in
   north_south_off e = simp (eq-eqb y ey e)
-
-  pub north_south_looks : {b i : ℕ} → ¬ (y ≡ ey) → b ≡ hop_to y ey → i ≡ number w x b → ltb 0 (get_or g i 0) ≡ north_south_in g w h ey x y
-  unfolding north_south_in
-  north_south_looks n p q = rw (q, p, ne_eqb y ey n) (sym (lit_on g w h x (hop_to y ey) (column_hop_on n)))
-
-  -- What makes (x, y) backed: it is the end, a mark along the row, or one along the column.
-  pub backed_end : x ≡ ex → y ≡ ey → true ≡ backed g w h ex ey x y
-  unfolding backed
-  backed_end p q = simp (eq-eqb x ex p, eq-eqb y ey q)
-
-  pub backed_row : east_west_in g w h ex x y ≡ true → true ≡ backed g w h ex ey x y
-  unfolding backed
-  backed_row e = rw e (sym (or_right (eqb x ex && eqb y ey) true refl))
-
-  pub backed_column : Apart x y ex ey → east_west_in g w h ex x y ≡ false → north_south_in g w h ey x y ≡ backed g w h ex ey x y
-  unfolding backed
-  backed_column n e = rw (e, away (ℕ_discrete x ex))
-    where
-      away : Dec (x ≡ ex) → (eqb x ex && eqb y ey) ≡ false
-      away (yes p) = simp (eq-eqb x ex p, ne_eqb y ey (λ q. n (p, q)))
-      away (no m) = simp (ne_eqb x ex m)
-
--- What a look has answered is what its definition has.
-pub told : {t u v : Bool} → t ≡ u → t ≡ v → u ≡ v
-told e f = sym e ∙ f
-
--- What a test for 0 tells.
-pub mark_none : {v : ℕ} {t : Bool} → v ≡ 0 → ltb 0 v ≡ t → false ≡ t
-mark_none {v} e f = sym (le-ltb 0 v (omega arith)) ∙ f
-
-pub mark_some : {v : ℕ} {t : Bool} → ¬ (v ≡ 0) → ltb 0 v ≡ t → true ≡ t
-mark_some {v} n f = sym (lt-ltb 0 v (omega arith)) ∙ f
 
 pub zero_bit : {v : ℕ} → v ≡ 0 → 1 ≡ bit (eqb v 0)
 zero_bit {v} e = ap bit (sym (eq-eqb v 0 e))

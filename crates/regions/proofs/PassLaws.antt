@@ -78,7 +78,7 @@ module _ (w h ex ey : ℕ) where
       here : at g' w a b ≡ cond (backed g' w h ex ey a b) (v a b) 0
       here = rw (← still, e) (store_here w h g size o _)
 
-  -- A pass over a part by any other name, and from any other numbers that are the same there.
+  -- A pass over a part by any other name.
   pub pass_over : {P Q : ℕ → ℕ → Type 0} {v : ℕ → ℕ → ℕ} {g g' : List ℕ} → ((x y : ℕ) → P x y → Q x y) → ((x y : ℕ) → Q x y → P x y)
       → Pass w h ex ey P v g g' → Pass w h ex ey Q v g g'
   pass_over to from p =
@@ -87,10 +87,6 @@ module _ (w h ex ey : ℕ) where
         passed = λ x y o q. p.passed x y o (from x y q);
         other = λ x y o n. p.other x y o (λ q. n (to x y q));
       }
-
-  pub pass_from : {P : ℕ → ℕ → Type 0} {u v : ℕ → ℕ → ℕ} {g g' : List ℕ} → ((x y : ℕ) → On w h x y → P x y → u x y ≡ v x y)
-      → Pass w h ex ey P u g g' → Pass w h ex ey P v g g'
-  pass_from e p = record { size = p.size; passed = λ x y o q. rw (← e x y o q) (p.passed x y o q); other = p.other }
 
 -- R is P and then Q: no crossing of P, and no hop from one towards (ex, ey), is in Q.
 pub record Follows (ex ey : ℕ) (P Q R : ℕ → ℕ → Type 0) : Type 0 where

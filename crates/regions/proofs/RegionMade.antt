@@ -3,7 +3,7 @@
 -- span the two together are no detour.
 use mathlib.Core.Path.{◌≡◌, sym, ◌∙◌}
 use mathlib.Core.List.{List}
-use Prim.Native.Nat.{ℕ, ◌+◌, ◌*◌, ◌<◌}
+use Prim.Native.Nat.{ℕ, ◌+◌, ◌*◌}
 use native.Mathlib.Omega.{arith}
 use native.Mathlib.Decide.{ℕ_discrete}
 use lib.ListN.{length, get_or}
@@ -114,20 +114,9 @@ module _ (w h : ℕ) (s : List ℕ) (sx sy dx dy : ℕ) where
         go x y o (yes k) = inside x y o k
         go x y o (no n) = outside x y o n
 
--- The tests of the ends, i being an end's number: it is closed if something else than 0 stands
--- there, and else open.
-module _ {w h x y i : ℕ} (s : List ℕ) (o : On w h x y) (is : i ≡ number w x y) where
-  pub end_closed : ¬ (get_or s i 0 ≡ 0) → Marked s w h x y
-  end_closed n = record { on = o; mark = rw (← is) (pos n) }
-    where
-      pos : {v : ℕ} → ¬ (v ≡ 0) → 0 < v
-      pos m = omega arith
-
-  pub end_open : get_or s i 0 ≡ 0 → Open w h (Marked s w h) x y
-  end_open e = record { on = o; free = λ m. none (rw (← is) at m.mark) }
-    where
-      none : 0 < get_or s i 0 → ⊥
-      none l = omega (arith, e)
+-- An end at which nothing stands is open.
+pub end_open : {w h x y : ℕ} (s : List ℕ) → On w h x y → at s w x y ≡ 0 → Open w h (Marked s w h) x y
+end_open s o e = record { on = o; free = λ m. omega (arith, m.mark, e) }
 
 -- The test at s on the region sheet tells whether there is a shortest drive.
 module _ {w h sx sy dx dy i : ℕ} {C : ℕ → ℕ → Type 0} (g : List ℕ) (r : RegionSheet w h C sx sy dx dy g) (o : On w h sx sy) (is : i ≡ number w sx sy) where

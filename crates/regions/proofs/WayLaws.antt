@@ -1,14 +1,14 @@
 -- Laws of one axis: hops towards an end, and the coordinates on the way between two ends. A
 -- coordinate on the way is fixed by how far it is from the start, and a hop towards the end brings
 -- it one farther.
-use mathlib.Core.Path.{◌≡◌, refl, ap}
-use Prim.Native.Nat.{ℕ, ◌+◌, ◌<◌, ◌≤◌}
+use mathlib.Core.Path.{◌≡◌}
+use Prim.Native.Nat.{ℕ, ◌+◌, ◌-◌, ◌<◌, ◌≤◌}
 use native.Mathlib.Omega.{arith}
 use borrow.Author.Tests.{lt-ltb, le-ltb}
 use Rattle.field.specs.Map.{gap}
 use Rattle.field.specs.Workings.Looking.{hop_to}
-use Rattle.field.proofs.Workings.GridLaws.{Order, less, same, more, order, gap_none, gap_turned}
-use Rattle.regions.specs.Passes.{OnWay}
+use Rattle.field.proofs.Workings.GridLaws.{Order, less, same, more, order, gap_turned}
+use Rattle.regions.specs.Passes.{OnWay, Along}
 
 -- A hop towards d, from below it and from above it.
 pub hop_up : {p d : ℕ} → p < d → hop_to p d ≡ p + 1
@@ -48,10 +48,7 @@ between_way (down l m) = record { direct = omega arith }
 pub way_turned : {a b p : ℕ} → OnWay a b p → OnWay b a p
 way_turned {a} {b} {p} e = record { direct = omega (arith, e.direct, gap_turned a p, gap_turned p b, gap_turned a b) }
 
--- The start is on the way, and what is on the way is on the map.
-pub way_start : (a b : ℕ) → OnWay a b a
-way_start a b = record { direct = omega (arith, gap_none {a = a} {b = a} refl) }
-
+-- What is on the way is on the map.
 pub way_lt : {a b p w : ℕ} → OnWay a b p → a < w → b < w → p < w
 way_lt {a} {b} {p} {w} e l m = go (way_between e)
   where
@@ -70,7 +67,7 @@ way_one {a} {b} {p} {q} e f s = go (way_between e) (way_between f)
     go (down k l) (up m n) = omega arith
     go (down k l) (down m n) = omega arith
 
--- A hop towards the end is on the way, and one farther from the start.
+-- A hop towards the end is on the way.
 pub way_hop : {a b p : ℕ} → OnWay a b p → ¬ (p ≡ b) → OnWay a b (hop_to p b)
 way_hop {a} {b} {p} e n = go (way_between e)
   where
@@ -78,17 +75,14 @@ way_hop {a} {b} {p} e n = go (way_between e)
     go (up k l) = let m : p < b = omega arith in between_way (up (omega (arith, hop_up m)) (omega (arith, hop_up m)))
     go (down k l) = let m : b < p = omega arith in between_way (down (omega (arith, hop_down m)) (omega (arith, hop_down m)))
 
-pub way_farther : {a b p : ℕ} → OnWay a b p → ¬ (p ≡ b) → gap a (hop_to p b) ≡ gap a p + 1
+-- The place k hops on from a towards b: above a where b is, and else below.
+pub along_up : {a b k : ℕ} → a < b → k ≤ gap a b → Along a b k (a + k)
 unfolding gap
-way_farther {a} {b} {p} e n = go (way_between e)
-  where
-    go : Between a b p → gap a (hop_to p b) ≡ gap a p + 1
-    go (up k l) = let m : p < b = omega arith in omega (arith, hop_up m)
-    go (down k l) = let m : b < p = omega arith in omega (arith, hop_down m)
+along_up l m = record { way = record { direct = omega arith }; far = omega arith }
 
-pub way_less : {a b p q : ℕ} → OnWay a b p → ¬ (p ≡ b) → q ≡ hop_to p b → gap q b < gap p b
-way_less {a} {b} {p} {q} e n i =
-    omega (arith, e.direct, (way_hop e n).direct, way_farther e n, ap (λ (k : ℕ). gap k b) i)
+pub along_down : {a b k : ℕ} → b ≤ a → k ≤ gap a b → Along a b k (a - k)
+unfolding gap
+along_down l m = record { way = record { direct = omega arith }; far = omega arith }
 
 -- A hop towards the start is one nearer it.
 pub back_nearer : {a p : ℕ} → ¬ (p ≡ a) → gap a (hop_to p a) + 1 ≡ gap a p

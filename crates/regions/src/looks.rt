@@ -1,52 +1,40 @@
 // Looks at a sheet of marks, one hop from a crossing towards another.
 ghost use Rattle.std.specs.Prelude.{◌≡◌};
 ghost use Rattle.field.specs.Workings.Reaching.{east_west_in, north_south_in};
-ghost use Rattle.regions.specs.Passes.{MayPass, backed};
+ghost use Rattle.regions.specs.Promise.{Ends};
+ghost use Rattle.regions.specs.Passes.{backed};
 
-use sheets::{hop, number_of};
+use field::Place;
+use sheets::{Sheet, hop};
 
-// Whether the sheet has a mark one hop from (x, y) along the row, towards column ex.
-pub fn east_west(g: &[u8], w: usize, h: usize, ex: usize, ey: usize, x: usize, y: usize) -> bool
-    requires { MayPass w h g.now ex ey x y }
-    ensures { result ≡ east_west_in g.now w h ex x y }
+// Whether the sheet has a mark one hop from p along the row, towards the end's column.
+pub fn east_west(g: Sheet<'_>, end: Place, p: Place) -> bool
+    requires { Ends g.map.w g.map.h end.x end.y p.x p.y }
+    ensures { result ≡ east_west_in g.entry.cells.now g.entry.map.w g.entry.map.h end.x p.x p.y }
 {
-    if x == ex {
-        return false;
-    }
-    let i = number_of(w, h, hop(x, ex), y);
-    if g[i] == 0 {
-        return false;
-    }
-    true
+    p.x != end.x
+        && g.at(Place {
+            x: hop(p.x, end.x),
+            y: p.y,
+        }) != 0
 }
 
-// Whether the sheet has a mark one hop from (x, y) along the column, towards row ey.
-pub fn north_south(g: &[u8], w: usize, h: usize, ex: usize, ey: usize, x: usize, y: usize) -> bool
-    requires { MayPass w h g.now ex ey x y }
-    ensures { result ≡ north_south_in g.now w h ey x y }
+// Whether the sheet has a mark one hop from p along the column, towards the end's row.
+pub fn north_south(g: Sheet<'_>, end: Place, p: Place) -> bool
+    requires { Ends g.map.w g.map.h end.x end.y p.x p.y }
+    ensures { result ≡ north_south_in g.entry.cells.now g.entry.map.w g.entry.map.h end.y p.x p.y }
 {
-    if y == ey {
-        return false;
-    }
-    let i = number_of(w, h, x, hop(y, ey));
-    if g[i] == 0 {
-        return false;
-    }
-    true
+    p.y != end.y
+        && g.at(Place {
+            x: p.x,
+            y: hop(p.y, end.y),
+        }) != 0
 }
 
-// Whether (x, y) is (ex, ey) or has a mark one hop nearer it.
-pub fn has_back(g: &[u8], w: usize, h: usize, ex: usize, ey: usize, x: usize, y: usize) -> bool
-    requires { MayPass w h g.now ex ey x y }
-    ensures { result ≡ backed g.now w h ex ey x y }
+// Whether p is the end or has a mark one hop nearer it.
+pub fn has_back(g: Sheet<'_>, end: Place, p: Place) -> bool
+    requires { Ends g.map.w g.map.h end.x end.y p.x p.y }
+    ensures { result ≡ backed g.entry.cells.now g.entry.map.w g.entry.map.h end.x end.y p.x p.y }
 {
-    if x == ex {
-        if y == ey {
-            return true;
-        }
-    }
-    if east_west(g, w, h, ex, ey, x, y) {
-        return true;
-    }
-    north_south(g, w, h, ex, ey, x, y)
+    p == end || east_west(g, end, p) || north_south(g, end, p)
 }

@@ -1,106 +1,83 @@
 // The two passes that make the region. Each walks over the rectangle that the two ends span: row by
 // row from its own end's row to the other's, and in each row from its own end's column to the
 // other's, so that the neighbours one hop nearer its end are always behind it.
-ghost use Rattle.std.specs.Prelude.{◌≡◌, cond, set};
-ghost use Rattle.field.specs.Map.{number, at};
+ghost use Rattle.std.specs.Prelude.{◌≡◌, ◌≤◌, ℕ, cond, set};
+ghost use Rattle.field.specs.Map.{On, number, at, gap};
 ghost use Rattle.regions.specs.Promise.{MayFind};
-ghost use Rattle.regions.specs.Passes.{MayPass, InRow, Spanned, backed, Pass, free};
+ghost use Rattle.regions.specs.Passes.{Along, Tells, InRow, Spanned, backed, Pass, free};
 
 use super::looks::has_back;
-use sheets::{hop, number_of};
+use field::{Place, Size};
+use sheets::{Sheet, number_of};
 
-// Sets (x, y) to v where it is (ex, ey) or has a mark one hop nearer it, and else to 0.
-fn settle(w: usize, h: usize, ex: usize, ey: usize, x: usize, y: usize, v: u8, g: &mut [u8])
-    requires { MayPass w h g.old ex ey x y }
-    ensures { g.new ≡ set g.old (number w x y) (cond (backed g.old w h ex ey x y) v 0) }
+// The place k hops from a towards b, on one axis.
+fn along(a: usize, b: usize, k: usize) -> usize
+    requires { k ≤ gap a b }
+    ensures { Along a b k result }
 {
-    let i = number_of(w, h, x, y);
-    if has_back(g, w, h, ex, ey, x, y) {
-        g[i] = v;
-        return;
-    }
-    g[i] = 0;
+    if a < b { a + k } else { a - k }
 }
 
-// 1 where (x, y) is open, and else 0.
-fn free_at(s: &[u8], w: usize, h: usize, x: usize, y: usize) -> u8
-    requires { MayPass w h s.now x y x y }
-    ensures { result ≡ free s.now w x y }
+// Sets p to v where it is the end or has a mark one hop nearer it, and else to 0.
+fn settle(map: Size, end: Place, p: Place, v: u8, g: &mut [u8])
+    requires { MayFind map.w map.h g.old end.x end.y p.x p.y }
+    ensures { g.new ≡ set g.old (number map.w p.x p.y) (cond (backed g.old map.w map.h end.x end.y p.x p.y) v 0) }
 {
-    let i = number_of(w, h, x, y);
-    if s[i] == 0 {
-        return 1;
-    }
-    0
+    let kept = has_back(Sheet { cells: g, map }, end, p);
+    g[number_of(map, p)] = if kept { v } else { 0 };
 }
 
-// The pass from s in row y: a mark at every open crossing that is backed.
-fn spread_row(s: &[u8], w: usize, h: usize, ex: usize, ey: usize, fx: usize, y: usize, g: &mut [u8])
-    requires { MayFind w h s.now g.old ex ey fx y }
-    ensures { Pass w h ex ey (InRow ex fx y) (free s.now w) g.old g.new }
+// 1 where p is open, and else 0.
+fn free_at(s: Sheet<'_>, p: Place) -> u8
+    requires { On s.map.w s.map.h p.x p.y }
+    ensures { result ≡ free s.entry.cells.now s.entry.map.w p.x p.y }
 {
-    let mut x = ex;
-    loop {
-        settle(w, h, ex, ey, x, y, free_at(s, w, h, x, y), g);
-        if x == fx {
-            return;
-        }
-        x = hop(x, fx);
+    u8::from(s.at(p) == 0)
+}
+
+// A pass from an end in one row, as far as the other place in it: what is backed gets the value
+// that the closure gives for its mark and place.
+fn pass_row<F: Fn(u8, Place) -> u8>(map: Size, end: Place, to: Place, f: &F, g: &mut [u8])
+    ghost v: { ℕ → ℕ → ℕ }
+    requires lent { MayFind map.w map.h g.old end.x end.y to.x to.y }
+    requires tells { Tells (F.pre f.now) (F.post f.now) map.w map.h (InRow end.x to.x to.y) v g.old }
+    ensures { Pass map.w map.h end.x end.y (InRow end.x to.x to.y) v g.old g.new }
+{
+    for k in 0..end.x.abs_diff(to.x) + 1 {
+        let p = Place {
+            x: along(end.x, to.x, k),
+            y: to.y,
+        };
+        let mark = f(g[number_of(map, p)], p);
+        settle(map, end, p, mark, g);
+    }
+}
+
+// A pass from an end over the rectangle that it and the other end span.
+fn pass<F: Fn(u8, Place) -> u8>(map: Size, end: Place, to: Place, f: F, g: &mut [u8])
+    ghost v: { ℕ → ℕ → ℕ }
+    requires lent { MayFind map.w map.h g.old end.x end.y to.x to.y }
+    requires tells { Tells (F.pre f) (F.post f) map.w map.h (Spanned end.x end.y to.x to.y) v g.old }
+    ensures { Pass map.w map.h end.x end.y (Spanned end.x end.y to.x to.y) v g.old g.new }
+{
+    for k in 0..end.y.abs_diff(to.y) + 1 {
+        let row = along(end.y, to.y, k);
+        pass_row(map, end, Place { x: to.x, y: row }, &f, g);
     }
 }
 
 // The pass from s: a mark at every open crossing of the rectangle that is backed.
-pub fn spread(
-    s: &[u8],
-    w: usize,
-    h: usize,
-    ex: usize,
-    ey: usize,
-    fx: usize,
-    fy: usize,
-    g: &mut [u8],
-)
-    requires { MayFind w h s.now g.old ex ey fx fy }
-    ensures { Pass w h ex ey (Spanned ex ey fx fy) (free s.now w) g.old g.new }
+pub fn spread(s: Sheet<'_>, end: Place, to: Place, g: &mut [u8])
+    requires { MayFind s.map.w s.map.h g.old end.x end.y to.x to.y }
+    ensures { Pass s.entry.map.w s.entry.map.h end.x end.y (Spanned end.x end.y to.x to.y) (free s.entry.cells.now s.entry.map.w) g.old g.new }
 {
-    let mut y = ey;
-    loop {
-        spread_row(s, w, h, ex, ey, fx, y, g);
-        if y == fy {
-            return;
-        }
-        y = hop(y, fy);
-    }
-}
-
-// The pass from d in row y: a mark stays where it is backed.
-fn sift_row(w: usize, h: usize, ex: usize, ey: usize, fx: usize, y: usize, g: &mut [u8])
-    requires { MayPass w h g.old ex ey fx y }
-    ensures { Pass w h ex ey (InRow ex fx y) (at g.old w) g.old g.new }
-{
-    let mut x = ex;
-    loop {
-        let i = number_of(w, h, x, y);
-        let v = g[i];
-        settle(w, h, ex, ey, x, y, v, g);
-        if x == fx {
-            return;
-        }
-        x = hop(x, fx);
-    }
+    pass(s.map, end, to, |_, p| free_at(s, p), g);
 }
 
 // The pass from d: a mark of the rectangle stays where it is backed.
-pub fn sift(w: usize, h: usize, ex: usize, ey: usize, fx: usize, fy: usize, g: &mut [u8])
-    requires { MayPass w h g.old ex ey fx fy }
-    ensures { Pass w h ex ey (Spanned ex ey fx fy) (at g.old w) g.old g.new }
+pub fn sift(map: Size, end: Place, to: Place, g: &mut [u8])
+    requires { MayFind map.w map.h g.old end.x end.y to.x to.y }
+    ensures { Pass map.w map.h end.x end.y (Spanned end.x end.y to.x to.y) (at g.old map.w) g.old g.new }
 {
-    let mut y = ey;
-    loop {
-        sift_row(w, h, ex, ey, fx, y, g);
-        if y == fy {
-            return;
-        }
-        y = hop(y, fy);
-    }
+    pass(map, end, to, |mark, _| mark, g);
 }

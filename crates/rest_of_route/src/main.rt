@@ -8,7 +8,8 @@ ghost use Rattle.std.specs.Prelude.{[], ◌∷◌, ◌≤◌};
 ghost use Rattle.calls.specs.Rules.{lent_map};
 ghost use Rattle.calls.specs.Calls.{RouteCall};
 
-use field::{Marker, TALLEST};
+use field::{Marker, Place, TALLEST};
+use layer::LentMap;
 
 // The descriptor that every program is started with for what it prints.
 const STDOUT: i32 = 1;
@@ -24,37 +25,29 @@ fn drive<'a>(
     rock: Marker,
     w: usize,
     h: usize,
-    sx: usize,
-    sy: usize,
-    dx: usize,
-    dy: usize,
+    from: Place,
+    to: Place,
     labels: &mut [u8],
     region: &mut [u8],
     route: &'a mut [u16],
     refusal: &mut u8,
     state: &mut u32,
 ) -> &'a mut [u16]
-    ensures { RouteCall (lent_map (rock ∷ []) 1 w h 0) sx sy dx dy labels.old region.old route.old state.old labels.new region.new result.now refusal.new state.new route.entry.ref_ptr result.ref_ptr }
+    ensures { RouteCall (lent_map (rock ∷ []) 1 w h 0) from.x from.y to.x to.y labels.old region.old route.old state.old labels.new region.new result.now refusal.new state.new route.entry.ref_ptr result.ref_ptr }
 {
     let list = [rock];
-    layer::route::drive(
-        &list, 1, w, h, 0, sx, sy, dx, dy, labels, region, route, refusal, state,
-    )
-}
-
-// A slot's number, wider: so nothing need be said of what the slot holds.
-fn wide(x: u16) -> u32 {
-    x as u32
+    let lent = LentMap::new(&list, 1, w, h, 0);
+    layer::route::drive(lent, from, to, labels, region, route, refusal, state)
 }
 
 // Prints a number, four hexadecimal digits, and a space.
-fn print(n: u32) {
+fn print(n: u16) {
     let digits = b"0123456789abcdef";
     let text = [
-        digits[(n / 4096 % 16) as usize],
-        digits[(n / 256 % 16) as usize],
-        digits[(n / 16 % 16) as usize],
-        digits[(n % 16) as usize],
+        digits[usize::from(n / 4096)],
+        digits[usize::from(n / 256 % 16)],
+        digits[usize::from(n / 16 % 16)],
+        digits[usize::from(n % 16)],
         b' ',
     ];
     io::write_all(STDOUT, &text);
@@ -63,7 +56,7 @@ fn print(n: u32) {
 // Asks for a drive from (0, 0) on a map 4 by 3 with a rock on (2, 0), into the first `lent` slots
 // of the buffer. Prints the refusal, the part's length and the state in two halves, then every
 // slot, lent or not.
-fn ask(dx: usize, dy: usize, lent: usize)
+fn ask(to: Place, lent: usize)
     requires { lent ≤ 8 }
 {
     let mut labels = [7u8; 12];
@@ -81,10 +74,8 @@ fn ask(dx: usize, dy: usize, lent: usize)
         rock,
         4,
         3,
-        0,
-        0,
-        dx,
-        dy,
+        Place { x: 0, y: 0 },
+        to,
         &mut labels,
         &mut region,
         &mut route[..lent],
@@ -92,14 +83,12 @@ fn ask(dx: usize, dy: usize, lent: usize)
         &mut state,
     );
     let length = part.len();
-    print(refusal as u32);
-    print((length % 65536) as u32);
-    print(state / 65536);
-    print(state % 65536);
-    let mut i: usize = 0;
-    while i < SLOTS {
-        print(wide(route[i]));
-        i += 1;
+    print(u16::from(refusal));
+    print((length % 65536) as u16);
+    print((state / 65536 % 65536) as u16);
+    print((state % 65536) as u16);
+    for slot in route {
+        print(slot);
     }
     io::write_all(STDOUT, b"\n");
 }
@@ -107,11 +96,11 @@ fn ask(dx: usize, dy: usize, lent: usize)
 // Drives of four crossings into room to spare and into exactly as much, then refusals 10, 9, 8 and
 // 4, then a drive of one crossing.
 fn main() {
-    ask(2, 1, 8);
-    ask(2, 1, 4);
-    ask(2, 1, 3);
-    ask(3, 0, 8);
-    ask(2, 0, 8);
-    ask(4, 0, 8);
-    ask(0, 0, 8);
+    ask(Place { x: 2, y: 1 }, 8);
+    ask(Place { x: 2, y: 1 }, 4);
+    ask(Place { x: 2, y: 1 }, 3);
+    ask(Place { x: 3, y: 0 }, 8);
+    ask(Place { x: 2, y: 0 }, 8);
+    ask(Place { x: 4, y: 0 }, 8);
+    ask(Place { x: 0, y: 0 }, 8);
 }

@@ -3,7 +3,7 @@ use Rattle.std.specs.Prelude.{◌≡◌, List, ◌⊎◌, ℕ, ◌*◌, ◌/◌,
 use Rattle.field.specs.Map.{Sides, On, at}
 use Rattle.field.specs.Workings.Sheet.{Marked}
 use Rattle.bits.specs.Laws.{without}
-use Rattle.words.specs.Words.{byte_of}
+use Rattle.words.specs.Words.{ZeroOne, byte_of}
 use Rattle.rows.specs.Rows.{word_at, bit_in, Long, Rows, WidthAt}
 
 -- A sheet of the map's size with 1 on each rock's crossing and 0 elsewhere.
@@ -16,9 +16,9 @@ pub record Stamped (w h : ℕ) (s : List ℕ) : Type 0 where
 abbrev pub Stones : ℕ → ℕ → List ℕ → ℕ → ℕ → Type 0
 Stones w h s x y = Marked s w h x y
 
--- A stamped sheet, and words enough, all zero.
-pub record Reading (w h : ℕ) (s c : List ℕ) : Type 0 where
-  pub stamped : Stamped w h s
+-- A sheet of 0 and 1, and words enough, all zero.
+pub record Reading (h : ℕ) (s c : List ℕ) : Type 0 where
+  pub ones : ZeroOne s
   pub long : Long h c
   pub blank : (i : ℕ) → get_or c i 0 ≡ 0
 
@@ -33,13 +33,13 @@ Before y j b a = (b < y) ⊎ ((b ≡ y) × (a < j))
 
 -- The rows before row y are read.
 pub record ReadingRow (w h y : ℕ) (s c : List ℕ) : Type 0 where
-  pub stamped : Stamped w h s
+  pub ones : ZeroOne s
   pub in_y : y < h
   pub drawing : Drawing (λ (b a : ℕ). b < y) w h s c
 
 -- The words before word j of row y are read.
 pub record ReadingAt (w h y j : ℕ) (s c : List ℕ) : Type 0 where
-  pub stamped : Stamped w h s
+  pub ones : ZeroOne s
   pub in_y : y < h
   pub in_x : 64 * j < w
   pub drawing : Drawing (Before y j) w h s c
@@ -59,10 +59,7 @@ abbrev pub Fair : ℕ → ℕ → List ℕ → List ℕ → List ℕ → Type 0
 Fair w h rock c s = (x y : ℕ) → On w h x y → (at s w x y ≡ bit_in rock x y) ⊎ (at s w x y ≡ label_at rock c x y)
 
 pub record Putting (w h : ℕ) (rock c s : List ℕ) : Type 0 where
-  pub sides : Sides w h
   pub size : length s ≡ h * w
-  pub long_rock : Long h rock
-  pub long_c : Long h c
   pub fair : Fair w h rock c s
 
 -- Row y, whose first word has n crossings; word j of it, which has n.

@@ -1,5 +1,5 @@
--- What the loop of `wipe` keeps true, that a crossing's number is small, and what a test's answer
--- tells.
-mod Wiping
+-- That a sheet filled with zeros is wiped, that a crossing's number is small, and what a test's
+-- answer tells.
+pub mod Wiping
 mod Numbers
 pub mod Told

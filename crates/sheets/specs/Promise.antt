@@ -1,6 +1,7 @@
 -- What is asked of a sheet and of a crossing, and what is promised.
-use Rattle.std.specs.Prelude.{◌≡◌, List, ℕ, ◌*◌, ◌<◌, length, get_or}
+use Rattle.std.specs.Prelude.{Option, None, Some, ◌≡◌, List, ℕ, ◌*◌, ◌<◌, length, get_or}
 use Rattle.field.specs.Map.{Sides, On, number}
+use Rattle.field.specs.declared.Size.{Size}
 
 -- A map within the limits, and a sheet of its size.
 pub record Fits (w h : ℕ) (s : List ℕ) : Type 0 where
@@ -27,3 +28,12 @@ pub record Numbered (w h x y n : ℕ) : Type 0 where
 pub record Wiped (s t : List ℕ) : Type 0 where
   pub size : length t ≡ length s
   pub zeros : (i : ℕ) → get_or t i 0 ≡ 0
+
+-- A size is made of a width and a height within the limits, and of no others.
+pub record Of (w h : ℕ) (m : Size) : Type 0 where
+  pub width : m.w ≡ w
+  pub height : m.h ≡ h
+
+abbrev pub IsSize : ℕ → ℕ → Option Size → Type 0
+IsSize w h None = ¬ Sides w h
+IsSize w h (Some m) = Of w h m

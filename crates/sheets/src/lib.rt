@@ -1,55 +1,58 @@
 // What is done with a sheet of any kind: whether its map's size is within the limits, a crossing's
-// number, the byte that stands there, all bytes wiped; and one hop along an axis.
+// number, the byte that stands there; and one hop along an axis.
 #![tactic(auto)]
 
-ghost use Rattle.std.specs.Prelude.{◌≡◌, true, ◌≢◌, ◌↔◌};
-ghost use Rattle.field.specs.Map.{Sides, at};
+ghost use Rattle.std.specs.Prelude.{◌≡◌, true, ◌≢◌, ◌↔◌, ◌*◌, length};
+ghost use Rattle.field.specs.Map.{Sides, On, at};
 ghost use Rattle.field.specs.Workings.Looking.{hop_to};
-ghost use Rattle.sheets.specs.Promise.{Placed, Numbered, Asked, Wiped};
+ghost use Rattle.sheets.specs.Promise.{Numbered, IsSize};
 
-use field::SIDE;
+use field::{Place, SIDE, Size};
 
-// "Width and height: 1 to 64 each", with Req 07 to 256.
-pub fn sized(w: usize, h: usize) -> bool
-    ensures { (result ≡ true) ↔ Sides w h }
+// A sheet of a map to look at: a byte for each crossing, by its number.
+#[derive(Clone, Copy)]
+pub struct Sheet<'a> {
+    pub cells: &'a [u8],
+    pub map: Size,
+    pub ghost fits: { length cells.now ≡ map.h * map.w },
+}
+
+impl<'a> Sheet<'a> {
+    // What the sheet has at a place.
+    pub fn at(self, p: Place) -> u8
+        requires { On self.map.w self.map.h p.x p.y }
+        ensures { result ≡ at self.entry.cells.now self.entry.map.w p.x p.y }
+    {
+        self.cells[number_of(self.map, p)]
+    }
+}
+
+// The size of a map, where it is within the limits: "Width and height: 1 to 64 each", with Req 07 to
+// 256.
+pub fn sized(w: usize, h: usize) -> Option<Size>
+    ensures { IsSize w h result }
 {
     if w == 0 {
-        return false;
+        return None;
     }
     if h == 0 {
-        return false;
+        return None;
     }
     if SIDE < w {
-        return false;
+        return None;
     }
-    h <= SIDE
+    if SIDE < h {
+        return None;
+    }
+    Some(Size { w, h })
 }
 
 // "Its number is y × width + x."
-pub fn number_of(w: usize, h: usize, x: usize, y: usize) -> usize
-    requires { Placed w h x y }
-    ensures { Numbered w h x y result }
+pub fn number_of(map: Size, p: Place) -> usize
+    requires { On map.w map.h p.x p.y }
+    ensures { Numbered map.w map.h p.x p.y result }
 {
-    y * w + x
-}
-
-// What the sheet has at (x, y).
-pub fn mark(s: &[u8], w: usize, h: usize, x: usize, y: usize) -> u8
-    requires { Asked w h s.now x y }
-    ensures { result ≡ at s.now w x y }
-{
-    s[y * w + x]
-}
-
-// Sets every byte of the sheet to 0.
-pub fn wipe(sheet: &mut [u8])
-    ensures { Wiped sheet.old sheet.new }
-{
-    let mut i = 0;
-    while i < sheet.len() {
-        sheet[i] = 0;
-        i += 1;
-    }
+    p.y * map.w + p.x
 }
 
 // The place next to p on one axis, one hop nearer d.

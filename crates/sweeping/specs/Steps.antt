@@ -1,13 +1,15 @@
 -- What the functions within ask and promise. A sweep marks what it closes as new, and puts it
 -- behind in a queue of crossing numbers; n is the queue's end. s and q are sheet and queue before,
 -- s', q' and n' are sheet, queue and end after.
-use Rattle.std.specs.Prelude.{◌≡◌, cond, List, map, ◌⊎◌, ℕ, zero, suc, ◌+◌, ◌*◌, ◌<◌, ◌≤◌, ltb, length, get_or, take}
-use Rattle.field.specs.Map.{Sides, On, number, at, Near}
+use Rattle.std.specs.Prelude.{Option, None, Some, ◌≡◌, cond, List, map, ◌⊎◌, ℕ, ◌+◌, ◌*◌, ◌<◌, ◌≤◌, ltb, length, get_or, take}
+use Rattle.field.specs.declared.Place.{Place}
+use Rattle.sweeping.specs.declared.Side.{Side}
+use Rattle.sweeping.specs.declared.Side.TheVariants.{East, West, North, South}
+use Rattle.field.specs.Map.{On, number, at, Near}
 use Rattle.field.specs.Limits.{crossing_slots}
 use Rattle.field.specs.Workings.Sheet.{lit, around}
 use Rattle.field.specs.Workings.MarkCount.{marks}
 use Rattle.rows.specs.Sheets.{Stamped}
-use Rattle.sweeping.specs.Promise.{Sweeping}
 
 -- The constants' numbers: SHUT, NEW.
 abbrev pub shut_mark : ℕ
@@ -16,10 +18,22 @@ shut_mark = 2
 abbrev pub new_mark : ℕ
 new_mark = 3
 
--- The place before p on an axis; where there is none, its end.
-unfoldable pub back_of : ℕ → ℕ → ℕ
-back_of zero end = end
-back_of (suc p) end = p
+-- (x, y) is next to p on a side.
+abbrev pub Toward : Side → Place → ℕ → ℕ → Type 0
+Toward East p x y = (x ≡ p.x + 1) × (y ≡ p.y)
+Toward West p x y = (x + 1 ≡ p.x) × (y ≡ p.y)
+Toward North p x y = (x ≡ p.x) × (y ≡ p.y + 1)
+Toward South p x y = (x ≡ p.x) × (y + 1 ≡ p.y)
+
+-- The place next to p on a side, where the map has one.
+abbrev pub IsNext : ℕ → ℕ → Place → Side → Option Place → Type 0
+IsNext w h p d None = (x y : ℕ) → On w h x y → ¬ Toward d p x y
+IsNext w h p d (Some r) = On w h r.x r.y × Toward d p r.x r.y
+
+-- A place of the map, if there is one.
+abbrev pub OnAt : ℕ → ℕ → Option Place → Type 0
+OnAt w h None = Unit {0}
+OnAt w h (Some p) = On w h p.x p.y
 
 -- The state before the sweep that is being made: what the sweep itself has closed counts as open.
 abbrev pub old : ℕ → ℕ
@@ -33,6 +47,11 @@ pub record Looked (s : List ℕ) (w h x y r : ℕ) : Type 0 where
   pub is : r ≡ lit (before s) w h x y
   pub most : r ≤ 1
 
+-- The same at a place, if there is one.
+abbrev pub LookedAt : List ℕ → ℕ → ℕ → Option Place → ℕ → Type 0
+LookedAt s w h None r = r ≡ 0
+LookedAt s w h (Some p) r = Looked s w h p.x p.y r
+
 -- The queue has the crossing of number i from a up to b.
 pub record Queued (q : List ℕ) (a b i : ℕ) : Type 0 where
   pub slot : ℕ
@@ -40,10 +59,9 @@ pub record Queued (q : List ℕ) (a b i : ℕ) : Type 0 where
   pub to : slot < b
   pub is : get_or q slot 0 ≡ i
 
--- A map within the limits, a sheet of it, and a queue with room for all its crossings, of which so
--- many are closed as the queue has at least.
+-- A sheet of the map, and a queue with room for all crossings, of which so many are closed as the
+-- queue has at least.
 pub record Ready (w h : ℕ) (s q : List ℕ) (n : ℕ) : Type 0 where
-  pub sides : Sides w h
   pub size : length s ≡ h * w
   pub room : crossing_slots ≤ length q
   pub few : n ≤ marks s
@@ -65,9 +83,14 @@ pub record Grows (w h : ℕ) (s q : List ℕ) (n : ℕ) (s' q' : List ℕ) (n' :
 pub record Judged (w h : ℕ) (s s' : List ℕ) (x y : ℕ) : Type 0 where
   pub done : On w h x y → 2 ≤ around (before s) w h x y → 0 < at s' w x y
 
-pub record JudgedAt (w h x y : ℕ) (s q : List ℕ) (n : ℕ) (s' q' : List ℕ) (n' : ℕ) : Type 0 where
+-- The same of a place, if there is one.
+abbrev pub JudgedPlace : ℕ → ℕ → List ℕ → List ℕ → Option Place → Type 0
+JudgedPlace w h s s' None = Unit {0}
+JudgedPlace w h s s' (Some p) = Judged w h s s' p.x p.y
+
+pub record JudgedAt (w h : ℕ) (p : Option Place) (s q : List ℕ) (n : ℕ) (s' q' : List ℕ) (n' : ℕ) : Type 0 where
   pub grows : Grows w h s q n s' q' n'
-  pub judged : Judged w h s s' x y
+  pub judged : JudgedPlace w h s s' p
 
 -- Every neighbour of the crossing of number i has been judged.
 pub record AllJudged (w h : ℕ) (s s' : List ℕ) (i : ℕ) : Type 0 where
@@ -141,7 +164,3 @@ pub record Gathered (s q q' : List ℕ) (n : ℕ) : Type 0 where
 pub record AllSweeps (w h : ℕ) (s q : List ℕ) : Type 0 where
   pub stamped : Stamped w h s
   pub room : crossing_slots ≤ length q
-
-pub record AllSwept (w h : ℕ) (s q s' q' : List ℕ) (n : ℕ) : Type 0 where
-  pub sweeping : Sweeping w h s s' n
-  pub room : length q' ≡ length q

@@ -6,14 +6,14 @@
 #![tactic(auto)]
 
 ghost use Rattle.std.specs.Prelude.{◌≡◌};
+ghost use Rattle.field.specs.Map.{On};
 ghost use Rattle.field.specs.Workings.Sheet.{around};
 ghost use Rattle.rows.specs.Sheets.{Stamped};
-ghost use Rattle.sheets.specs.Promise.{Fits, Asked};
 ghost use Rattle.sweeping.specs.Promise.{Sweeping};
-ghost use Rattle.sweeping.specs.Steps.{back_of, before, Looked, Ready, JudgedAt, SpreadFrom, Spreads, SweepsPart, SweptPart, Settles, Settled, Putting, Put, Gathers, Gathered, Stepped, AllSweeps, AllSwept};
+ghost use Rattle.sweeping.specs.Steps.{IsNext, OnAt, before, LookedAt, Ready, JudgedAt, SpreadFrom, Spreads, SweepsPart, SweptPart, Settles, Settled, Putting, Put, Gathers, Gathered, Stepped, AllSweeps};
 
-use field::MOST_CROSSINGS;
-use sheets::{mark, number_of};
+use field::{MOST_CROSSINGS, Place, Size};
+use sheets::{Sheet, number_of};
 
 // The label of a shut crossing; and what stands for it while the sweep that closes it is made.
 // Until the sweep is over such a crossing counts as open.
@@ -21,66 +21,66 @@ const SHUT: u8 = 2;
 
 const NEW: u8 = 3;
 
-// The place before p on an axis; where there is none, its end, which is off the map.
-fn back(p: usize, end: usize) -> usize
-    ensures { result ≡ back_of p end }
-{
-    if p == 0 {
-        return end;
-    }
-    p - 1
+// The four sides of a crossing.
+#[derive(Clone, Copy)]
+enum Side {
+    East,
+    West,
+    North,
+    South,
 }
 
-// 1 where (x, y) was closed before the sweep that is being made, and else 0; 0 off the map.
-fn look(s: &[u8], w: usize, h: usize, x: usize, y: usize) -> usize
-    requires { Fits w h s.now }
-    ensures { Looked s.now w h x y result }
+// The place next to p on a side, where the map has one.
+fn next(map: Size, p: Place, side: Side) -> Option<Place>
+    requires { On map.w map.h p.x p.y }
+    ensures { IsNext map.w map.h p side result }
 {
-    if w <= x {
-        return 0;
+    match side {
+        Side::East if p.x + 1 < map.w => Some(Place { x: p.x + 1, y: p.y }),
+        Side::West if 0 < p.x => Some(Place { x: p.x - 1, y: p.y }),
+        Side::North if p.y + 1 < map.h => Some(Place { x: p.x, y: p.y + 1 }),
+        Side::South if 0 < p.y => Some(Place { x: p.x, y: p.y - 1 }),
+        _ => None,
     }
-    if h <= y {
-        return 0;
-    }
-    let b = mark(s, w, h, x, y);
-    if b == 0 {
-        return 0;
-    }
-    if b < NEW {
-        return 1;
-    }
-    0
 }
 
-// How many neighbours of (x, y) were closed before the sweep.
-fn beside(s: &[u8], w: usize, h: usize, x: usize, y: usize) -> usize
-    requires { Asked w h s.now x y }
-    ensures { result ≡ around (before s.now) w h x y }
+// 1 where p was closed before the sweep that is being made, and else 0; 0 where there is no place.
+fn look(s: Sheet<'_>, p: Option<Place>) -> usize
+    requires { OnAt s.map.w s.map.h p }
+    ensures { LookedAt s.entry.cells.now s.entry.map.w s.entry.map.h p result }
 {
-    let e = look(s, w, h, x + 1, y);
-    let o = look(s, w, h, back(x, w), y);
-    let n = look(s, w, h, x, y + 1);
-    let u = look(s, w, h, x, back(y, h));
+    let Some(p) = p else {
+        return 0;
+    };
+    let b = s.at(p);
+    if b != 0 && b < NEW { 1 } else { 0 }
+}
+
+// How many neighbours of p were closed before the sweep.
+fn beside(s: Sheet<'_>, p: Place) -> usize
+    requires { On s.map.w s.map.h p.x p.y }
+    ensures { result ≡ around (before s.entry.cells.now) s.entry.map.w s.entry.map.h p.x p.y }
+{
+    let e = look(s, next(s.map, p, Side::East));
+    let o = look(s, next(s.map, p, Side::West));
+    let n = look(s, next(s.map, p, Side::North));
+    let u = look(s, next(s.map, p, Side::South));
     e + o + n + u
 }
 
-// Judges (x, y) on the state before the sweep: an open crossing with two or more closed neighbours
-// is closed, and put at the queue's end, n. Hands back the new end. Off the map nothing is done.
-fn judge(s: &mut [u8], w: usize, h: usize, q: &mut [u16], n: usize, x: usize, y: usize) -> usize
-    requires { Ready w h s.old q.old n }
-    ensures { JudgedAt w h x y s.old q.old n s.new q.new result }
+// Judges p on the state before the sweep: an open crossing with two or more closed neighbours is
+// closed, and put at the queue's end, n. Hands back the new end. Where there is no place nothing is
+// done.
+fn judge(s: &mut [u8], map: Size, q: &mut [u16], n: usize, p: Option<Place>) -> usize
+    requires on { OnAt map.w map.h p }
+    requires ready { Ready map.w map.h s.old q.old n }
+    ensures { JudgedAt map.w map.h p s.old q.old n s.new q.new result }
 {
-    if w <= x {
+    let Some(p) = p else {
         return n;
-    }
-    if h <= y {
-        return n;
-    }
-    let i = number_of(w, h, x, y);
-    if s[i] != 0 {
-        return n;
-    }
-    if beside(s, w, h, x, y) < 2 {
+    };
+    let i = number_of(map, p);
+    if s[i] != 0 || beside(Sheet { cells: s, map }, p) < 2 {
         return n;
     }
     s[i] = NEW;
@@ -89,29 +89,29 @@ fn judge(s: &mut [u8], w: usize, h: usize, q: &mut [u16], n: usize, x: usize, y:
 }
 
 // Judges every neighbour of the crossing of number i.
-fn spread(s: &mut [u8], w: usize, h: usize, q: &mut [u16], n: usize, i: usize) -> usize
-    requires { Spreads w h i s.old q.old n }
-    ensures { SpreadFrom w h i s.old q.old n s.new q.new result }
+fn spread(s: &mut [u8], map: Size, q: &mut [u16], n: usize, i: usize) -> usize
+    requires { Spreads map.w map.h i s.old q.old n }
+    ensures { SpreadFrom map.w map.h i s.old q.old n s.new q.new result }
 {
-    let x = i % w;
-    let y = i / w;
-    let a = judge(s, w, h, q, n, x + 1, y);
-    let b = judge(s, w, h, q, a, back(x, w), y);
-    let c = judge(s, w, h, q, b, x, y + 1);
-    judge(s, w, h, q, c, x, back(y, h))
+    let p = Place {
+        x: i % map.w,
+        y: i / map.w,
+    };
+    let a = judge(s, map, q, n, next(map, p, Side::East));
+    let b = judge(s, map, q, a, next(map, p, Side::West));
+    let c = judge(s, map, q, b, next(map, p, Side::North));
+    judge(s, map, q, c, next(map, p, Side::South))
 }
 
 // A sweep from the part of the queue from lo to hi: every crossing that it closes is put behind.
-fn sweep(s: &mut [u8], w: usize, h: usize, q: &mut [u16], lo: usize, hi: usize) -> usize
-    requires { SweepsPart w h lo hi s.old q.old }
-    ensures { SweptPart w h lo hi s.old q.old s.new q.new result }
+fn sweep(s: &mut [u8], map: Size, q: &mut [u16], lo: usize, hi: usize) -> usize
+    requires { SweepsPart map.w map.h lo hi s.old q.old }
+    ensures { SweptPart map.w map.h lo hi s.old q.old s.new q.new result }
 {
     let mut n = hi;
-    let mut j = lo;
-    while j < hi {
-        let i = q[j] as usize;
-        n = spread(s, w, h, q, n, i);
-        j += 1;
+    for j in lo..hi {
+        let i = usize::from(q[j]);
+        n = spread(s, map, q, n, i);
     }
     n
 }
@@ -121,20 +121,17 @@ fn settle(s: &mut [u8], q: &[u16], lo: usize, hi: usize)
     requires { Settles lo hi s.old q.now }
     ensures { Settled lo hi s.old q.now s.new }
 {
-    let mut j = lo;
-    while j < hi {
-        let i = q[j] as usize;
-        s[i] = SHUT;
-        j += 1;
+    for j in lo..hi {
+        s[usize::from(q[j])] = SHUT;
     }
 }
 
 // One sweep and its end. Hands back the queue's new end: hi, if the sweep changed nothing.
-fn step(s: &mut [u8], w: usize, h: usize, q: &mut [u16], lo: usize, hi: usize) -> usize
-    requires { SweepsPart w h lo hi s.old q.old }
-    ensures { Stepped w h lo hi s.old q.old s.new q.new result }
+fn step(s: &mut [u8], map: Size, q: &mut [u16], lo: usize, hi: usize) -> usize
+    requires { SweepsPart map.w map.h lo hi s.old q.old }
+    ensures { Stepped map.w map.h lo hi s.old q.old s.new q.new result }
 {
-    let n = sweep(s, w, h, q, lo, hi);
+    let n = sweep(s, map, q, lo, hi);
     settle(s, q, hi, n);
     n
 }
@@ -156,26 +153,25 @@ fn gather(s: &[u8], q: &mut [u16]) -> usize
     requires { Gathers s.now q.old }
     ensures { Gathered s.now q.old q.new result }
 {
-    let mut n = 0usize;
-    let mut i = 0usize;
-    while i < s.len() {
+    let mut n = 0;
+    for i in 0..s.len() {
         n = put(s, q, n, i);
-        i += 1;
     }
     n
 }
 
-// Sweep after sweep, until one changes nothing. k counts those that changed something; the queue
-// from lo to hi has what the last of them closed, and before the first all rocks.
-fn run(s: &mut [u8], w: usize, h: usize, q: &mut [u16]) -> usize
-    requires { AllSweeps w h s.old q.old }
-    ensures { AllSwept w h s.old q.old s.new q.new result }
+// Sweep after sweep, until one changes nothing: how many, no count says beforehand. k counts those
+// that changed something; the queue from lo to hi has what the last of them closed, and before the
+// first all rocks.
+fn run(s: &mut [u8], map: Size, q: &mut [u16]) -> usize
+    requires { AllSweeps map.w map.h s.old q.old }
+    ensures { Sweeping map.w map.h s.old s.new result }
 {
     let mut lo = 0usize;
     let mut hi = gather(s, q);
     let mut k = 0usize;
-    loop {
-        let n = step(s, w, h, q, lo, hi);
+    'sweeps: loop {
+        let n = step(s, map, q, lo, hi);
         if n == hi {
             return k;
         }
@@ -187,11 +183,12 @@ fn run(s: &mut [u8], w: usize, h: usize, q: &mut [u16]) -> usize
 
 // Labels a sheet on which the rocks are stamped as 1, all else 0, sweep by sweep: then it holds 0
 // where a crossing is open, 1 at a rock, 2 where one is shut. Hands back the number of sweeps that
-// changed something. The queue takes two bytes a crossing of the largest map.
-pub fn sweeps(s: &mut [u8], w: usize, h: usize) -> usize
-    requires { Stamped w h s.old }
-    ensures { Sweeping w h s.old s.new result }
+// changed something. The queue takes two bytes a crossing of the largest map: an array and its end,
+// since a queue of the library's would want the heap.
+pub fn sweeps(s: &mut [u8], map: Size) -> usize
+    requires { Stamped map.w map.h s.old }
+    ensures { Sweeping map.w map.h s.old s.new result }
 {
     let mut q = [0u16; MOST_CROSSINGS];
-    run(s, w, h, &mut q)
+    run(s, map, &mut q)
 }

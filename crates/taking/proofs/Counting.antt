@@ -1,6 +1,6 @@
 -- Faults counted along a row: there are none so far exactly where each crossing passed is as it may
 -- be.
-use mathlib.Core.Path.{◌≡◌, refl, sym, ap}
+use mathlib.Core.Path.{◌≡◌, sym, ap}
 use mathlib.Core.List.{List}
 use mathlib.Core.Logic.{◌↔◌}
 use Prim.Native.Nat.{ℕ, ◌+◌, ◌<◌, ◌≤◌}
@@ -15,9 +15,6 @@ module _ (south here north : List ℕ) where
     pub few : faults ≤ x
     pub none : faults ≡ 0 → (k : ℕ) → k < x → GoodAt south here north k
     pub all : ((k : ℕ) → k < x → GoodAt south here north k) → faults ≡ 0
-
-  pub counted_start : Counted 0 0
-  counted_start = record { few = omega arith; none = λ e k l. absurd (omega arith); all = λ f. refl }
 
   -- One crossing more, its five bytes by whatever names the code has for them.
   pub counted_more : {faults x r e v : ℕ} → Counted faults x → e ≡ get_or here (x + 1) 0 → v ≡ west_in here x

@@ -14,7 +14,6 @@ use Rattle.field.specs.Map.{On, at}
 use Rattle.field.specs.Workings.Sheet.{lit, west_of, south_of, around}
 use Rattle.field.proofs.Workings.Marks.{unmarked_lit, south_at}
 use Rattle.field.specs.Workings.MorningLaws.{Kept}
-use Rattle.sheets.specs.Promise.{Fits}
 use Rattle.taking.specs.Faults.{shown_by, west_in, GoodAt, IsRow}
 
 shown_none : shown_by 0 ≡ 0
@@ -48,11 +47,11 @@ module _ (w h : ℕ) (s : List ℕ) where
   lit_off x y n = unmarked_lit s w h x y (λ m. n m.on)
 
   -- The part of the sheet from the row's first crossing to its last is the row.
-  pub part_row : (y start end : ℕ) → Fits w h s → y < h → start ≡ y * w → end ≡ start + w → IsRow w h s y (take (end - start) (drop start s))
-  part_row y start end fits l p q = record { long = long; byte = byte; shows = λ x. go x (dec_lt x w) }
+  pub part_row : (y start end : ℕ) → length s ≡ h * w → y < h → start ≡ y * w → end ≡ start + w → IsRow w h s y (take (end - start) (drop start s))
+  part_row y start end size l p q = record { long = long; byte = byte; shows = λ x. go x (dec_lt x w) }
     where
       inside : w ≤ length (drop start s)
-      inside = omega (arith, length-drop start s, row_end y h w l, fits.size)
+      inside = omega (arith, length-drop start s, row_end y h w l, size)
 
       wide : end - start ≡ w
       wide = omega arith

@@ -4,7 +4,6 @@ use Rattle.std.specs.Prelude.{◌≡◌, List, ◌↔◌, ℕ, zero, suc, ◌+�
 use Rattle.field.specs.Map.{side, at}
 use Rattle.field.specs.Workings.Sheet.{bit, lit}
 use Rattle.field.specs.Workings.MorningLaws.{Kept}
-use Rattle.sheets.specs.Promise.{Fits}
 
 -- 1 for a byte that is not 0.
 unfoldable pub shown_by : ℕ → ℕ
@@ -48,9 +47,8 @@ pub record IsRow (w h : ℕ) (s : List ℕ) (y : ℕ) (row : List ℕ) : Type 0 
   pub byte : (x : ℕ) → x < w → get_or row x 0 ≡ at s w x y
   pub shows : (x : ℕ) → shown_by (get_or row x 0) ≡ lit s w h x y
 
--- A sheet, a row of it, and a row of zeros.
-pub record RowAsked (w h : ℕ) (s none : List ℕ) (y : ℕ) : Type 0 where
-  pub fits : Fits w h s
+-- A row of a sheet, and a row of zeros.
+pub record RowAsked (w h : ℕ) (none : List ℕ) (y : ℕ) : Type 0 where
   pub row : y < h
   pub long : length none ≡ w
   pub zeros : (i : ℕ) → get_or none i 0 ≡ 0

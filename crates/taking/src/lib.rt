@@ -5,11 +5,11 @@
 #![tactic(auto)]
 
 ghost use Rattle.std.specs.Prelude.{◌≡◌, true, ◌↔◌, ◌<◌};
-ghost use Rattle.sheets.specs.Promise.{Fits};
 ghost use Rattle.taking.specs.Promise.{Steady};
 ghost use Rattle.taking.specs.Faults.{Shown, Judged, RowLent, RowJudged, IsRow, RowAsked, RowAtJudged};
 
 use field::SIDE;
+use sheets::Sheet;
 
 // The largest label: "every byte is 0, 1 or 2".
 const LARGEST_LABEL: u8 = 2;
@@ -22,10 +22,7 @@ const MOST_CLOSED: u8 = 1;
 fn shown(b: u8) -> u8
     ensures { Shown b result }
 {
-    if b == 0 {
-        return 0;
-    }
-    1
+    u8::from(b != 0)
 }
 
 // 1 for a crossing at fault, 0 for any other: its byte, and those of its four neighbours, 0 where
@@ -34,16 +31,7 @@ fn fault(here: u8, east: u8, south: u8, west: u8, north: u8) -> u8
     ensures { Judged here east south west north result }
 {
     let around = shown(east) + shown(south) + shown(west) + shown(north);
-    if LARGEST_LABEL < here {
-        return 1;
-    }
-    if here != 0 {
-        return 0;
-    }
-    if MOST_CLOSED < around {
-        return 1;
-    }
-    0
+    u8::from(LARGEST_LABEL < here || here == 0 && MOST_CLOSED < around)
 }
 
 // How many crossings of a row are at fault, from the row and those south and north of it. The last
@@ -55,58 +43,46 @@ fn row_faults(south: &[u8], here: &[u8], north: &[u8]) -> u16
     let last = here.len() - 1;
     let mut faults: u16 = 0;
     let mut west: u8 = 0;
-    let mut x: usize = 0;
-    while x < last {
-        faults += fault(here[x], here[x + 1], south[x], west, north[x]) as u16;
+    for x in 0..last {
+        faults += u16::from(fault(here[x], here[x + 1], south[x], west, north[x]));
         west = here[x];
-        x += 1;
     }
-    faults + fault(here[last], 0, south[last], west, north[last]) as u16
+    faults + u16::from(fault(here[last], 0, south[last], west, north[last]))
 }
 
 // Row y of a sheet.
-fn row_of(s: &[u8], w: usize, h: usize, y: usize) -> &[u8]
-    requires { Fits w h s.now × (y < h) }
-    ensures { IsRow w h s.now y result.now }
+fn row_of<'a>(s: Sheet<'a>, y: usize) -> &'a [u8]
+    requires { y < s.map.h }
+    ensures { IsRow s.entry.map.w s.entry.map.h s.entry.cells.now y result.now }
 {
-    let start = y * w;
-    let end = start + w;
-    &s[start..end]
+    let start = y * s.map.w;
+    &s.cells[start..start + s.map.w]
 }
 
 // The faults of row y of a sheet. `none` is a row of zeros: past the edge nothing is shown closed.
-fn faults_at(s: &[u8], none: &[u8], w: usize, h: usize, y: usize) -> u16
-    requires { RowAsked w h s.now none.now y }
-    ensures { RowAtJudged w h s.now y result }
+fn faults_at(s: Sheet<'_>, none: &[u8], y: usize) -> u16
+    requires { RowAsked s.map.w s.map.h none.now y }
+    ensures { RowAtJudged s.entry.map.w s.entry.map.h s.entry.cells.now y result }
 {
-    let here = row_of(s, w, h, y);
-    if y + 1 < h {
-        let north = row_of(s, w, h, y + 1);
-        if y == 0 {
-            return row_faults(none, here, north);
-        }
-        let south = row_of(s, w, h, y - 1);
-        return row_faults(south, here, north);
-    }
-    if y == 0 {
-        return row_faults(none, here, none);
-    }
-    let south = row_of(s, w, h, y - 1);
-    row_faults(south, here, none)
+    let south = if y == 0 { none } else { row_of(s, y - 1) };
+    let north = if y + 1 < s.map.h {
+        row_of(s, y + 1)
+    } else {
+        none
+    };
+    row_faults(south, row_of(s, y), north)
 }
 
 // Whether the sheet by itself has no fault.
-pub fn steady(s: &[u8], w: usize, h: usize) -> bool
-    requires { Fits w h s.now }
-    ensures { (result ≡ true) ↔ Steady w h s.now }
+pub fn steady(s: Sheet<'_>) -> bool
+    ensures { (result ≡ true) ↔ Steady s.entry.map.w s.entry.map.h s.entry.cells.now }
 {
     let zeros = [0u8; SIDE];
-    let mut y: usize = 0;
-    while y < h {
-        if faults_at(s, &zeros[..w], w, h, y) != 0 {
+    let none = &zeros[..s.map.w];
+    for y in 0..s.map.h {
+        if faults_at(s, none, y) != 0 {
             return false;
         }
-        y += 1;
     }
     true
 }

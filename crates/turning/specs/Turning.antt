@@ -1,17 +1,10 @@
 -- What turning a raster onto a sheet asks. That the raster has its rows from the north and the
 -- sheet from the south is `Turned`'s to say.
 use Rattle.std.specs.Prelude.{◌≡◌, List, ℕ, ◌+◌, ◌*◌, ◌-◌, ◌≤◌, length, take, drop}
-use Rattle.field.specs.Map.{Sides}
-
--- The bytes begin with a whole row, and the part of the sheet has just the room for it.
-pub record RowBytes (w : ℕ) (raster part : List ℕ) : Type 0 where
-  pub whole : w ≤ length raster
-  pub room : length part ≡ w
 
 -- What turning asks: a byte for each crossing, and a sheet of the map's size. What follows those
 -- bytes is not looked at.
 pub record MayTurn (w h : ℕ) (raster sheet : List ℕ) : Type 0 where
-  pub sides : Sides w h
   pub whole : h * w ≤ length raster
   pub size : length sheet ≡ h * w
 

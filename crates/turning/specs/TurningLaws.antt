@@ -4,7 +4,7 @@ use Rattle.std.specs.Prelude.{◌≡◌, List, ℕ, ◌+◌, ◌*◌, ◌-◌, �
 use Rattle.std.proofs.Common.{◌∙◌, arith}
 use Rattle.std.proofs.Math.ListN.{length-drop}
 use Rattle.std.proofs.Math.Seq.{length-take-le, get_or-take, get_or-drop}
-use Rattle.field.specs.Map.{On, at}
+use Rattle.field.specs.Map.{Sides, On, at}
 use Rattle.field.specs.Workings.Sheet.{number_lt}
 use Rattle.mapfile.specs.File.{raster_place}
 use Rattle.mapfile.specs.Turned.{Turned}
@@ -12,7 +12,7 @@ use Rattle.packing.specs.Packing.{pieces}
 use Rattle.packing.specs.PackingLaws.{piece_end, pieces_length, pieces_at}
 use Rattle.turning.specs.Turning.{MayTurn, raster_row}
 
-module _ {w h : ℕ} {raster sheet : List ℕ} (m : MayTurn w h raster sheet) where
+module _ {w h : ℕ} {raster sheet : List ℕ} (s : Sides w h) (m : MayTurn w h raster sheet) where
   -- A row of the raster ends within the raster.
   pub row_whole : (r : ℕ) → r < h → r * w + w ≤ length raster
   row_whole r l = omega (arith, piece_end r h w l, m.whole)
@@ -21,7 +21,7 @@ module _ {w h : ℕ} {raster sheet : List ℕ} (m : MayTurn w h raster sheet) wh
   unfolding raster_row
   row_length y =
       let r = h - (y + 1) in
-      let whole = row_whole r (omega (arith, m.sides.some_h)) in
+      let whole = row_whole r (omega (arith, s.some_h)) in
       length-take-le w (drop (r * w) raster) (omega (arith, length-drop (r * w) raster))
 
   abbrev rows : List ℕ

@@ -3,30 +3,25 @@
 // other.
 #![tactic(auto)]
 
-ghost use Rattle.std.specs.Prelude.{◌*◌, take, ◌≡◌};
+ghost use Rattle.std.specs.Prelude.{◌≡◌, ◌*◌, ◌<◌, ◌≤◌, length, take};
 ghost use Rattle.mapfile.specs.Turned.{Turned};
-ghost use Rattle.turning.specs.Turning.{RowBytes, MayTurn};
+ghost use Rattle.turning.specs.Turning.{MayTurn, raster_row};
 
-// One row: the bytes of a raster row, which begin the slice, into the row's own part of the sheet.
-fn turn_row(raster: &[u8], w: usize, part: &mut [u8])
-    requires { RowBytes w raster.now part.old }
-    ensures { part.new ≡ take w raster.now }
-{
-    for x in 0..w {
-        part[x] = raster[x];
-    }
-}
+use field::Size;
 
-// Turns a raster onto a sheet. "The first raster row is the northmost."
-pub fn turn(raster: &[u8], w: usize, h: usize, sheet: &mut [u8])
-    requires { MayTurn w h raster.now sheet.old }
-    ensures { Turned w h (take (h * w) raster.now) sheet.new }
+// Turns a raster onto a sheet. "The first raster row is the northmost": row y of the map is raster
+// row h - (y + 1).
+pub fn turn(raster: &[u8], map: Size, sheet: &mut [u8])
+    requires { MayTurn map.w map.h raster.now sheet.old }
+    ensures { Turned map.w map.h (take (map.h * map.w) raster.now) sheet.new }
 {
-    for y in 0..h {
-        let r = h - (y + 1);
-        let from = r * w;
-        let start = y * w;
-        let end = start + w;
-        turn_row(&raster[from..], w, &mut sheet[start..end]);
-    }
+    let Size { w, h, .. } = map;
+    let put = move |y: usize, part: &mut [u8]|
+        requires { (y < h) × (length part.now ≡ w) × (h * w ≤ length raster.now) }
+        ensures { part.exit.now ≡ raster_row raster.entry.now w h y }
+    {
+        let from = (h - (y + 1)) * w;
+        part.copy_from_slice(&raster[from..from + w]);
+    };
+    packing::each_row(sheet, w, h, put);
 }

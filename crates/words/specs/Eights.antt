@@ -4,15 +4,6 @@ use Rattle.std.specs.Int.Bits.{bit_and, bit_or}
 use Rattle.bits.specs.Bit.{bit_at}
 use Rattle.words.specs.Words.{ZeroOne, byte_of}
 
--- One byte of a sheet of 0 and 1.
-pub record Looking (i : ℕ) (s : List ℕ) : Type 0 where
-  pub ones : ZeroOne s
-  pub in_sheet : i < length s
-
-pub record Looked (i : ℕ) (s : List ℕ) (r : ℕ) : Type 0 where
-  pub is : r ≡ get_or s i 0
-  pub most : r ≤ 1
-
 -- n bytes of a sheet of 0 and 1 from number i on.
 pub record LookingAt (i n : ℕ) (s : List ℕ) : Type 0 where
   pub ones : ZeroOne s

@@ -6,9 +6,10 @@
 ghost use Rattle.std.specs.Prelude.{◌≡◌, ◌+◌, ◌*◌, ◌/◌, ◌^◌, ◌<◌, ◌≤◌, length};
 ghost use Rattle.bits.specs.Bit.{Mask};
 ghost use Rattle.words.specs.Words.{Ones, ReadingWord, Reads, WrittenAt};
-ghost use Rattle.words.specs.Eights.{Looking, Looked, gathered, spread_out, LookingAt, LookedFour, LookedEight, Puts, Bytes};
+ghost use Rattle.words.specs.Eights.{gathered, spread_out, LookingAt, LookedFour, LookedEight, Puts, Bytes};
 
 // The low n bits.
+#[tactic(auto, using(bits::specs::Carries::mask_law))]
 pub fn mask_of(n: usize) -> u64
     requires { (1 ≤ n) × (n ≤ 64) }
     ensures { Mask n result }
@@ -20,26 +21,12 @@ pub fn mask_of(n: usize) -> u64
 pub fn ones_of(v: u64) -> usize
     ensures { Ones v result }
 {
-    u64::count_ones(v) as usize
-}
-
-// A byte as a word.
-fn wide(b: u8) -> u64
-    ensures { result ≡ b }
-{
-    b as u64
-}
-
-// A byte of a sheet of 0 and 1, as a word.
-fn look(s: &[u8], i: usize) -> u64
-    requires { Looking i s.now }
-    ensures { Looked i s.now result }
-{
-    wide(s[i])
+    v.count_ones() as usize
 }
 
 // Eight bits that stand four apart, gathered side by side: the product has each of them at its
 // place, since no two of its terms share a bit.
+#[tactic(auto, unfolding(crate::specs::Eights::gathered))]
 fn gather(v: u64) -> u64
     requires { v < 2 ^ 32 }
     ensures { result ≡ gathered v }
@@ -48,6 +35,7 @@ fn gather(v: u64) -> u64
 }
 
 // The low eight bits, spread out into eight bytes of 0 and 1: the same three steps back.
+#[tactic(auto, unfolding(crate::specs::Eights::spread_out))]
 fn spread(v: u64) -> u64
     ensures { result ≡ spread_out v }
 {
@@ -57,6 +45,7 @@ fn spread(v: u64) -> u64
 }
 
 // Eight bytes in a word: 1 for a bit of a, 2 for a bit of b.
+#[tactic(auto, using(crate::proofs::Laws::Eights::bytes_law, crate::proofs::Laws::Eights::spread_most))]
 fn both(a: u64, b: u64) -> u64
     requires { (a < 256) × (b < 256) }
     ensures { Bytes a b result }
@@ -70,11 +59,7 @@ fn four(s: &[u8], i: usize) -> u64
     requires { LookingAt i 4 s.now }
     ensures { LookedFour i s.now result }
 {
-    let a = look(s, i);
-    let b = look(s, i + 1);
-    let c = look(s, i + 2);
-    let d = look(s, i + 3);
-    a + 0x100 * b + 0x1_0000 * c + 0x100_0000 * d
+    u64::from(u32::from_le_bytes([s[i], s[i + 1], s[i + 2], s[i + 3]]))
 }
 
 // Eight bytes of a sheet of 0 and 1 from number i on, as bits. The bytes of the second four go
@@ -89,18 +74,12 @@ fn eight(s: &[u8], i: usize) -> u64
 }
 
 // Writes the eight bytes of a word from number i on, the lowest first.
+#[tactic(auto, using(crate::proofs::Laws::Eights::put_eight_law))]
 fn put_eight(s: &mut [u8], i: usize, v: u64)
     requires { i + 8 ≤ length s.old }
     ensures { Puts i v 8 s.old s.new }
 {
-    s[i] = (v & 255) as u8;
-    s[i + 1] = ((v >> 8) & 255) as u8;
-    s[i + 2] = ((v >> 16) & 255) as u8;
-    s[i + 3] = ((v >> 24) & 255) as u8;
-    s[i + 4] = ((v >> 32) & 255) as u8;
-    s[i + 5] = ((v >> 40) & 255) as u8;
-    s[i + 6] = ((v >> 48) & 255) as u8;
-    s[i + 7] = (v >> 56) as u8;
+    s[i..i + 8].copy_from_slice(&v.to_le_bytes());
 }
 
 // The n bytes of a sheet of 0 and 1 from number i on, as bits, but for the last n % 8.
@@ -109,24 +88,21 @@ fn read_eights(s: &[u8], i: usize, n: usize) -> u64
     ensures { Reads i s.now (n / 8 * 8) result }
 {
     let mut v = 0u64;
-    let mut x = 0;
-    while x + 8 <= n {
+    for x in (0..n / 8 * 8).step_by(8) {
         v |= eight(s, i + x) << x;
-        x += 8;
     }
     v
 }
 
 // The n bytes of a sheet of 0 and 1 from number i on, as bits.
+#[tactic(auto, using(crate::proofs::Laws::Words::reads_next))]
 pub fn read_word(s: &[u8], i: usize, n: usize) -> u64
     requires { ReadingWord i n s.now }
     ensures { Reads i s.now n result }
 {
     let mut v = read_eights(s, i, n);
-    let mut x = n / 8 * 8;
-    while x < n {
-        v |= wide(s[i + x]) << x;
-        x += 1;
+    for x in n / 8 * 8..n {
+        v |= u64::from(s[i + x]) << x;
     }
     v
 }
@@ -136,10 +112,8 @@ fn write_eights(s: &mut [u8], i: usize, n: usize, ro: u64, sh: u64)
     requires { (i + n ≤ length s.old) × (n ≤ 64) }
     ensures { WrittenAt i ro sh s.old s.new (n / 8 * 8) }
 {
-    let mut x = 0;
-    while x + 8 <= n {
+    for x in (0..n / 8 * 8).step_by(8) {
         put_eight(s, i + x, both((ro >> x) & 255, (sh >> x) & 255));
-        x += 8;
     }
 }
 
@@ -149,9 +123,7 @@ pub fn write_word(s: &mut [u8], i: usize, n: usize, ro: u64, sh: u64)
     ensures { WrittenAt i ro sh s.old s.new n }
 {
     write_eights(s, i, n, ro, sh);
-    let mut x = n / 8 * 8;
-    while x < n {
+    for x in n / 8 * 8..n {
         s[i + x] = (((ro >> x) & 1) + 2 * ((sh >> x) & 1)) as u8;
-        x += 1;
     }
 }

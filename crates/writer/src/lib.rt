@@ -4,28 +4,20 @@
 #![tactic(auto)]
 
 ghost use Rattle.std.specs.Prelude.{◌≡◌, ◌∷◌, [], ◌++◌, ◌≤◌, ◌+◌, length};
-ghost use Rattle.sheets.specs.Promise.{Fits};
 ghost use Rattle.writer.specs.Promise.{Writes};
 ghost use Rattle.writer.specs.Digits.{DigitCount, digits_of, two_of, header_of};
 
-// What writing comes to: so many bytes, or an output too short for the whole file.
-#[derive(Clone, Copy)]
-pub enum Wrote {
-    Bytes(usize),
-    Short,
-}
+use field::{Refusal, Size};
+use sheets::Sheet;
 
 // How many decimal digits a number has: as often as ten goes into it, and one more. So 0 has one.
 pub fn digit_count(v: usize) -> usize
     ensures { DigitCount v result }
 {
-    let mut n = 1;
-    let mut rest = v / 10;
-    while 0 < rest {
-        n += 1;
-        rest = rest / 10;
+    if v == 0 {
+        return 1;
     }
-    n
+    v.ilog10() as usize + 1
 }
 
 // One decimal digit, of a number below ten.
@@ -36,14 +28,13 @@ fn digit(d: usize) -> u8
     b'0' + d as u8
 }
 
-// Fills the slice with the lowest digits of a number, as many as it has room for, from its end.
+// Fills the slice with the lowest digits of a number, as many as it has room for, from its end. By
+// index, since a proof knows nothing of what is written through `iter_mut().rev()`.
 pub fn write_number(out: &mut [u8], v: usize)
     ensures { out.new ≡ digits_of (length out.old) v }
 {
-    let mut k = out.len();
     let mut rest = v;
-    while 0 < k {
-        k -= 1;
+    for k in (0..out.len()).rev() {
         out[k] = digit(rest % 10);
         rest = rest / 10;
     }
@@ -65,30 +56,33 @@ pub fn write_header(out: &mut [u8], letters: &[u8; 2], w: usize, a: usize, h: us
     requires { length out.old ≡ a + b + 5 }
     ensures { out.new ≡ header_of (two_of letters.now) w a h b }
 {
-    let space = 3 + a;
-    let next = space + 1;
-    let end = next + b;
-    write_letters(&mut out[0..3], letters);
-    write_number(&mut out[3..space], w);
-    out[space] = b' ';
-    write_number(&mut out[next..end], h);
-    out[end] = b'\n';
+    let (first, rest) = out.split_at_mut(3);
+    let (width, rest) = rest.split_at_mut(a);
+    let (space, rest) = rest.split_at_mut(1);
+    let (height, end) = rest.split_at_mut(b);
+    write_letters(first, letters);
+    write_number(width, w);
+    space[0] = b' ';
+    write_number(height, h);
+    end[0] = b'\n';
 }
 
 // Writes the map whose rocks are marked on the sheet. Bytes past the end stay; an output too short
 // is left as it is.
-pub fn write(s: &[u8], w: usize, h: usize, out: &mut [u8]) -> Wrote
-    requires { Fits w h s.now }
-    ensures { Writes w h s.now out.old out.new result }
+pub fn write(s: Sheet<'_>, out: &mut [u8]) -> Result<usize, Refusal>
+    ensures { Writes s.entry.map.w s.entry.map.h s.entry.cells.now out.old out.new result }
 {
+    let Size { w, h, .. } = s.map;
     let a = digit_count(w);
     let b = digit_count(h);
     let start = a + b + 5;
     let end = start + h * ((w + 7) / 8);
     if out.len() < end {
-        return Wrote::Short;
+        return Err(Refusal::ShortOutput);
     }
-    write_header(&mut out[0..start], b"P4", w, a, h, b);
-    packing::write_rows(&mut out[start..end], s, w, h);
-    Wrote::Bytes(end)
+    let (file, _) = out.split_at_mut(end);
+    let (header, rows) = file.split_at_mut(start);
+    write_header(header, b"P4", w, a, h, b);
+    packing::write_rows(rows, s);
+    Ok(end)
 }

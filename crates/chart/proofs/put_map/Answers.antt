@@ -8,19 +8,17 @@ use Rattle.turning.specs.Stamping.{turned_stamped, turned_draws}
 use Rattle.chart.proofs.put_map.Goals as goal
 
 pub label-found-requires : goal.label-found-requires
-label-found-requires c =
-    let p = c.requires in
-    turned_stamped c.args.bits.now p.turn.sides p.ones c.turn.ensures
+label-found-requires c = turned_stamped c.args.bits.now c.args.map.within c.requires.ones c.turn.ensures
 
 pub returns : goal.returns
 returns c =
-    let a = c.args in
+    let map = c.args.map in
     let p = c.requires in
-    let line = c.put_line-start in
+    let line = c.put_first-start in
     let rows = c.put_rows in
-    let end = line.result + a.h * (a.w + 1) in
+    let end = line.result + map.h * (map.w + 1) in
     let reach : line.result ≤ line_room = omega (arith, line.ensures.put.size, line.ensures.right.few) in
     let room : end ≤ length line.new.out = omega (arith, reach, p.room, line.auto.out) in
     let after : line.result ≤ end = omega arith in
-    map_put c.label-found.ensures a.bits.now (turned_draws a.bits.now p.turn.sides p.ones c.turn.ensures) line.ensures rows.ensures
+    map_put c.label-found.ensures c.args.bits.now (turned_draws c.args.bits.now map.within p.ones c.turn.ensures) line.ensures rows.ensures
     (part_put line.new.out line.result end rows.new.out after room rows.auto.out)

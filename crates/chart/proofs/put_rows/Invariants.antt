@@ -1,9 +1,7 @@
--- `put_rows` meets its contract: after r turns the r northmost rows stand at the front.
-use Rattle.std.proofs.Common.{◌+◌, ◌*◌, ◌-◌, ◌≤◌}
-use Rattle.packing.specs.Packing.{pieces}
-use Rattle.packing.proofs.Filling.{Filled}
+-- The rows that `put_rows` draws are those of the map, the northmost first.
+use Rattle.std.proofs.Common.{◌+◌, ◌-◌}
 use Rattle.chart.specs.Drawing.{row_of}
 use Rattle.chart.proofs.put_rows.Given as goal
 
-abbrev pub invariant-loop-r : goal.invariant-loop-r
-invariant-loop-r l = (l.r ≤ l.h) × Filled (pieces l.r (λ i. row_of l.sheet l.w (l.h - (i + 1)))) (l.r * l.row) l.initial.out l.out
+abbrev pub ghost-each_row : goal.ghost-each_row
+ghost-each_row a = λ r. row_of a.put.0.cells.now a.put.0.map.w (a.h - (r + 1))

@@ -1,6 +1,5 @@
 -- `sign` meets its contract: the label is 0, 1 or more.
-use Prim.Native.Nat.{ℕ, zero, suc}
-use mathlib.Core.Path.{◌≡◌, refl, sym, ap}
+use Rattle.std.proofs.Common.{ℕ, zero, suc, ◌≡◌, refl, sym, ap, arith}
 use Rattle.chart.specs.Drawing.{sign_of}
 use Rattle.chart.proofs.sign.Goals as goal
 
@@ -10,13 +9,13 @@ sign_other zero p q = absurd (p refl)
 sign_other (suc zero) p q = absurd (q refl)
 sign_other (suc (suc b)) p q = refl
 
-pub returns-then-label-eq0 : goal.returns-then-label-eq0
+pub returns-in-0 : goal.returns-in-0
 unfolding sign_of
-returns-then-label-eq0 c = sym (ap sign_of c.if-label-eq0.true)
+returns-in-0 c = sym (ap sign_of c.in-0.is)
 
-pub returns-then-label-eq1 : goal.returns-then-label-eq1
+pub returns-in-1 : goal.returns-in-1
 unfolding sign_of
-returns-then-label-eq1 c = sym (ap sign_of c.if-label-eq1.true)
+returns-in-1 c = sym (ap sign_of c.in-1.is)
 
-pub returns : goal.returns
-returns c = sign_other _ c.if-label-eq0.false c.if-label-eq1.false
+pub returns-in_default : goal.returns-in_default
+returns-in_default c = sign_other c.args.label (λ e. omega arith) (λ e. omega arith)

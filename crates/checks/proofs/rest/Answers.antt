@@ -1,28 +1,13 @@
 -- `rest` meets its contract: each way out finds what is left to be found there.
-use mathlib.Core.Path.{◌∙◌}
-use native.Mathlib.Omega.{arith}
-use Rattle.checks.proofs.Going.{onward_start, onward_asked, onward_end, onward_short, onward_after, onward_fault, onward_next}
+use Rattle.std.proofs.Common.{arith, rules}
+use Rattle.std.proofs.lemmas.Result.{err_from_is_err_and}
+use Rattle.checks.proofs.Going.{onward_fault, onward_next}
 use Rattle.checks.proofs.rest.Goals as goal
 
-pub loop-p-init : goal.loop-p-init
-loop-p-init c = onward_start _ _ _ c.requires
+pub returns-in_err-p : goal.returns-in_err-p
+returns-in_err-p c =
+    let p = err_from_is_err_and c.from_residual.result c.from_residual.ensures.1 in
+    rw (p.1, p.2) (onward_fault c.loop-k.invariant (omega arith) c.if-eq.ensures _ (λ e f h. search rules) c.map_err.ensures.cases c.step.ensures c.in_err-p.was)
 
-pub returns-then-y-dy : goal.returns-then-y-dy
-returns-then-y-dy c = c.found.ensures ∙ onward_after c.loop-p.invariant c.loop-p-test.true c.if-x-dx.true c.if-y-dy.true
-
-pub step-t-requires : goal.step-t-requires
-step-t-requires c = onward_asked c.loop-p.invariant (omega arith)
-
-pub returns-then-t-ne-NO_FAULT : goal.returns-then-t-ne-NO_FAULT
-returns-then-t-ne-NO_FAULT c =
-    c.found-then-t-ne-NO_FAULT.ensures
-    ∙ onward_fault c.loop-p.invariant c.loop-p-test.true (λ e f. omega arith) c.step-t.ensures c.if-t-ne-NO_FAULT.true
-
-pub loop-p-preserved : goal.loop-p-preserved
-loop-p-preserved c = onward_next c.loop-p.invariant c.loop-p-test.true (λ e f. omega arith) c.step-t.ensures c.if-t-ne-NO_FAULT.false
-
-pub returns-then-y-dy-2 : goal.returns-then-y-dy-2
-returns-then-y-dy-2 c = c.found-then-y-dy-2.ensures ∙ onward_end c.loop-p.invariant c.loop-p-test.false c.if-x-dx-2.true c.if-y-dy-2.true
-
-pub returns : goal.returns
-returns c = c.found-2.ensures ∙ onward_short c.loop-p.invariant c.loop-p-test.false (λ e f. omega arith)
+pub loop-k-preserved : goal.loop-k-preserved
+loop-k-preserved c = onward_next c.loop-k.invariant (omega arith) c.if-eq.ensures _ (λ e f h. search rules) c.map_err.ensures.cases c.step.ensures c.in_ok-p.was

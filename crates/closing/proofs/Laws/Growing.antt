@@ -8,11 +8,11 @@ use native.Mathlib.Decide.{ℕ_discrete}
 use lib.ListN.{length, get_or, set, length-set}
 use lib.Seq.{get_or-set_other, set-get_or}
 use lib.Bits.{bit_xor}
-use Rattle.field.specs.Map.{On, Near, east, west, north, south}
+use Rattle.field.specs.Map.{Sides, On, Near, east, west, north, south}
 use Rattle.field.specs.Labels.{Closed, rock, between, closed_on_map}
 use Rattle.bits.specs.Bit.{bit_at, EastOf, WestOf}
 use Rattle.bits.specs.Laws.{bit_le, xor_same, same_xor}
-use Rattle.rows.specs.Layout.{words, stride, spot, spot_north, spot_south, spot_east, spot_west, sides_w}
+use Rattle.rows.specs.Layout.{stride, spot, spot_north, spot_south, spot_east, spot_west, sides_w}
 use Rattle.rows.specs.Rows.{Lit, Place, Rows, MaskAt}
 use Rattle.rows.specs.Laws.{by_set}
 use Rattle.closing.specs.Steps.{around_at, Stepped, Along, here, from_west, from_east, Beside, Steps, start, next, run, Filled}
@@ -32,14 +32,11 @@ two_of_lem {P} e w n s le lw ln ls l ew en es wn ws ns = go (ℕ_discrete e 1) (
     go (no a) (yes b) (no c) = ws b (omega arith)
     go (no a) (no b) c = ns (omega arith) (omega arith)
 
-pub most_w : {w h y j : ℕ} {s : List ℕ} → Growing w h y j s → w ≤ 64 * words
-most_w g = sides_w g.sweeping.sides
-
 -- All words that a word's growing reads are there.
-pub room : {w h y j : ℕ} {s : List ℕ} → Growing w h y j s → spot_north y j < length s
-room g = omega (arith, g.sweeping.rows.long, g.in_y, g.in_x, most_w g)
+pub room : {w h y j : ℕ} {s : List ℕ} → Sides w h → Growing w h y j s → spot_north y j < length s
+room z g = omega (arith, g.rows.long, g.in_y, g.in_x, sides_w z)
 
-module _ {w h y j mask : ℕ} {s : List ℕ} (g : Growing w h y j s) (masks : MaskAt w j mask) where
+module _ {w h y j mask : ℕ} {s : List ℕ} (sides : Sides w h) (g : Growing w h y j s) (masks : MaskAt w j mask) where
   abbrev K : ℕ → ℕ → Type 0
   K = Closed (Lit w h s) w h
 
@@ -49,9 +46,9 @@ module _ {w h y j mask : ℕ} {s : List ℕ} (g : Growing w h y j s) (masks : Ma
 
   closed_at : (i k x z : ℕ) → bit_at (get_or s i 0) k ≡ 1 → i ≡ spot z (x / 64) → k ≡ x % 64 → x < 64 * stride → K x z
   closed_at i k x z e p q l =
-      let m = g.sweeping.rows.narrow i k e in
-      let a : m.x ≡ x = omega (arith, m.word, m.bit, m.on.in_x, most_w g) in
-      let b : m.y ≡ z = omega (arith, m.word, m.bit, m.on.in_x, most_w g) in
+      let m = g.rows.narrow i k e in
+      let a : m.x ≡ x = omega (arith, m.word, m.bit, m.on.in_x, sides_w sides) in
+      let b : m.y ≡ z = omega (arith, m.word, m.bit, m.on.in_x, sides_w sides) in
       rw (a, b) at (place_closed m e)
 
   -- Each bit of the word u is a closed crossing.
@@ -60,24 +57,24 @@ module _ {w h y j mask : ℕ} {s : List ℕ} (g : Growing w h y j s) (masks : Ma
 
   in_start : InWord (get_or s (spot y j) 0)
   in_start i e =
-      let m = g.sweeping.rows.narrow (spot y j) i e in
+      let m = g.rows.narrow (spot y j) i e in
       let l : i < 64 = omega (arith, m.bit) in
-      (l, closed_at (spot y j) i (64 * j + i) y e (omega arith) (omega arith) (omega (arith, g.in_x, most_w g)))
+      (l, closed_at (spot y j) i (64 * j + i) y e (omega arith) (omega arith) (omega (arith, g.in_x, sides_w sides)))
 
   at_north : (i : ℕ) → i < 64 → bit_at (get_or s (spot_north y j) 0) i ≡ 1 → K (64 * j + i) (y + 1)
-  at_north i l e = closed_at (spot_north y j) i (64 * j + i) (y + 1) e (omega arith) (omega arith) (omega (arith, g.in_x, most_w g))
+  at_north i l e = closed_at (spot_north y j) i (64 * j + i) (y + 1) e (omega arith) (omega arith) (omega (arith, g.in_x, sides_w sides))
 
   at_south : (i : ℕ) → i < 64 → bit_at (get_or s (spot_south y j) 0) i ≡ 1 → (b : ℕ) × (b + 1 ≡ y) × K (64 * j + i) b
   at_south i l e =
-      let m = g.sweeping.rows.narrow (spot_south y j) i e in
-      let a : m.x ≡ 64 * j + i = omega (arith, m.word, m.bit, m.on.in_x, most_w g, g.in_x) in
-      (m.y, omega (arith, m.word, m.bit, m.on.in_x, most_w g, g.in_x), rw a at (place_closed m e))
+      let m = g.rows.narrow (spot_south y j) i e in
+      let a : m.x ≡ 64 * j + i = omega (arith, m.word, m.bit, m.on.in_x, sides_w sides, g.in_x) in
+      (m.y, omega (arith, m.word, m.bit, m.on.in_x, sides_w sides, g.in_x), rw a at (place_closed m e))
 
   at_east : (u e i : ℕ) → InWord u → EastOf 64 u (get_or s (spot_east y j) 0) e → i < 64 → bit_at e i ≡ 1 → K (64 * j + i + 1) y
   at_east u e i r q l b = go (ℕ_discrete i 63)
     where
       go : Dec (i ≡ 63) → K (64 * j + i + 1) y
-      go (yes f) = closed_at (spot_east y j) 0 (64 * j + i + 1) y (sym q.carry ∙ (rw f at b)) (omega arith) (omega arith) (omega (arith, g.in_x, most_w g))
+      go (yes f) = closed_at (spot_east y j) 0 (64 * j + i + 1) y (sym q.carry ∙ (rw f at b)) (omega arith) (omega arith) (omega (arith, g.in_x, sides_w sides))
       go (no n) =
           let f : 64 * j + (i + 1) ≡ 64 * j + i + 1 = omega arith in
           rw f at (r (i + 1) (sym (q.inner i (omega arith)) ∙ b)).1
@@ -85,9 +82,9 @@ module _ {w h y j mask : ℕ} {s : List ℕ} (g : Growing w h y j s) (masks : Ma
   at_west : (u e i : ℕ) → InWord u → WestOf 64 u (get_or s (spot_west y j) 0) e → i < 64 → bit_at e i ≡ 1 → (a : ℕ) × (a + 1 ≡ 64 * j + i) × K a y
   at_west u e zero r q l b =
       let c = sym q.carry ∙ b in
-      let m = g.sweeping.rows.narrow (spot_west y j) 63 c in
-      let z : m.y ≡ y = omega (arith, m.word, m.bit, m.on.in_x, most_w g, g.in_x) in
-      (m.x, omega (arith, m.word, m.bit, m.on.in_x, most_w g, g.in_x), rw z at (place_closed m c))
+      let m = g.rows.narrow (spot_west y j) 63 c in
+      let z : m.y ≡ y = omega (arith, m.word, m.bit, m.on.in_x, sides_w sides, g.in_x) in
+      (m.x, omega (arith, m.word, m.bit, m.on.in_x, sides_w sides, g.in_x), rw z at (place_closed m c))
   at_west u e (suc i) r q l b =
       let f : i + 1 ≡ suc i = omega arith in
       let c : bit_at u i ≡ 1 = sym (q.inner i (omega arith)) ∙ ap (bit_at e) f ∙ b in
@@ -160,14 +157,14 @@ module _ {w h y j mask : ℕ} {s : List ℕ} (g : Growing w h y j s) (masks : Ma
     I = spot y j
 
     fits : I < length s
-    fits = omega (arith, g.sweeping.rows.long, g.in_y, g.in_x, most_w g)
+    fits = omega (arith, g.rows.long, g.in_y, g.in_x, sides_w sides)
 
     by_word : (P : ℕ → Type 0) (k : ℕ) → (k ≡ I → P r) → ((k ≡ I → ⊥) → P (get_or s k 0)) → P (get_or (set s I r) k 0)
     by_word = by_set s I r fits
 
     -- The crossing of a bit of this word.
     at_x : (x z k : ℕ) → k ≡ I → k ≡ spot z (x / 64) → x < w → (x ≡ 64 * j + x % 64) × (z ≡ y)
-    at_x x z k p q l = (omega (arith, most_w g, g.in_x), omega (arith, most_w g, g.in_x))
+    at_x x z k p q l = (omega (arith, sides_w sides, g.in_x), omega (arith, sides_w sides, g.in_x))
 
     on_of : (i : ℕ) → i < 64 → K (64 * j + i) y → Place w h I i
     on_of i l k = record { x = 64 * j + i; y = y; on = closed_on_map (Lit w h s) w h (64 * j + i) y k; word = omega arith; bit = omega arith }
@@ -175,9 +172,9 @@ module _ {w h y j mask : ℕ} {s : List ℕ} (g : Growing w h y j s) (masks : Ma
     grown_rows : Rows w h (set s I r)
     grown_rows =
         record {
-          long = simp length-set g.sweeping.rows.long;
-          words = λ k. by_word (λ (v : ℕ). v < 2 ^ 64) k (λ e. f.still.fits) (λ n. g.sweeping.rows.words k);
-          narrow = λ k b. by_word (λ (v : ℕ). bit_at v b ≡ 1 → Place w h k b) k (λ e q. let z = in-steps f.steps b q in rw e (on_of b z.0 z.1)) (λ n q. g.sweeping.rows.narrow k b q);
+          long = simp length-set g.rows.long;
+          words = λ k. by_word (λ (v : ℕ). v < 2 ^ 64) k (λ e. f.still.fits) (λ n. g.rows.words k);
+          narrow = λ k b. by_word (λ (v : ℕ). bit_at v b ≡ 1 → Place w h k b) k (λ e q. let z = in-steps f.steps b q in rw e (on_of b z.0 z.1)) (λ n q. g.rows.narrow k b q);
         }
 
     grown : Grown w h s (set s I r)

@@ -1,41 +1,36 @@
 -- Rows that need no look: only a row that changes can move a row beside it.
 use mathlib.Core.Path.{◌≡◌, refl, sym, ◌∙◌}
 use mathlib.Core.List.{List}
-use Prim.Native.Nat.{ℕ, zero, suc, ◌+◌, ◌*◌, ◌<◌, ◌≤◌}
+use Prim.Native.Nat.{ℕ, ◌+◌, ◌*◌, ◌<◌, ◌≤◌}
 use native.Mathlib.Omega.{arith}
 use native.Mathlib.Decide.{ℕ_discrete}
 use lib.ListN.{length, get_or, set, length-set, replicate}
 use lib.Seq.{get_or-set_same, get_or-set_other}
+use Rattle.std.proofs.lemmas.List.{get_or-replicate}
+use Rattle.field.specs.Map.{Sides}
 use Rattle.rows.specs.Layout.{spot, spot_north, spot_south, spot_east, spot_west, sides_w}
 use Rattle.closing.specs.Growth.{StillWord, Sweeps}
 use Rattle.closing.specs.Closes.{Marks, LookingRow, Looks}
 use Rattle.closing.proofs.Laws.Sweeping.{grown_refl, sweeps_zero}
 
--- A list of ones has ones.
-pub ones_at : (n i : ℕ) → i < n → ◌≡◌ {A = ℕ} (get_or (replicate n 1) i 0) 1
-ones_at zero i l = absurd (omega arith)
-ones_at (suc n) zero l = refl
-ones_at (suc n) (suc i) l = ones_at n i (omega arith)
-
 pub marks_start : {w h n : ℕ} {c : List ℕ} → h + 2 ≤ length {A = ℕ} (replicate n 1) → h + 2 ≤ n → Marks w h c (replicate n 1)
-marks_start {w} {h} {n} m l = record { long = m; calm = λ y p e j q. absurd (omega (arith, ones_at n (y + 1) (omega arith))) }
+marks_start {w} {h} {n} m l = record { long = m; calm = λ y p e j q. absurd (omega (arith, get_or-replicate {A = ℕ} n (y + 1) 1 0 (omega arith))) }
 
 abbrev Row : ℕ → ℕ → ℕ → ℕ → Type 0
 Row w y b a = (b ≡ y) × (64 * a < w)
 
-module _ {w h y : ℕ} {s f : List ℕ} (k : LookingRow w h y s f) where
+module _ {w h y : ℕ} {s f : List ℕ} (sides : Sides w h) (k : LookingRow w h y s f) where
   pub look_calm : get_or f (y + 1) 0 ≡ 0 → Looks (Row w y) w h s f s f 0
   look_calm e =
       record {
         sweeps = record {
-          grown = grown_refl k.sweeping.rows;
+          grown = grown_refl k.rows;
           same = λ z. refl;
           still = λ z b a d. rw d.0 (k.marks.calm y k.in_y e a d.1);
           more = λ m. absurd (m refl);
           frame = λ i n. refl;
         };
         marks = k.marks;
-        size = refl;
       }
 
   -- The row was looked at, and nothing changed.
@@ -44,7 +39,6 @@ module _ {w h y : ℕ} {s f : List ℕ} (k : LookingRow w h y s f) where
       record {
         sweeps = sweeps_zero e g;
         marks = record { long = simp length-set k.marks.long; calm = λ z l q j m. calm z l q j m (ℕ_discrete z y) };
-        size = length-set f (y + 1) 0;
       }
     where
       calm : (z : ℕ) → z < h → get_or (set f (y + 1) 0) (z + 1) 0 ≡ 0 → (j : ℕ) → 64 * j < w → Dec (z ≡ y) → StillWord w t z j
@@ -57,7 +51,6 @@ module _ {w h y : ℕ} {s f : List ℕ} (k : LookingRow w h y s f) where
       record {
         sweeps = g;
         marks = record { long = simp length-set k.marks.long; calm = λ z l q j m. calm z l q j m (ℕ_discrete z y) (ℕ_discrete (z + 1) y) (ℕ_discrete z (y + 1)) };
-        size = length-set (set f y 1) (y + 2) 1 ∙ length-set f y 1;
       }
     where
       long : y + 2 < length f
@@ -76,7 +69,7 @@ module _ {w h y : ℕ} {s f : List ℕ} (k : LookingRow w h y s f) where
           absurd (omega (arith, v, rw u at q))
       calm z l q j m (no a) (no b) (no c) =
           let o = k.marks.calm z l (sym (get_or-set_other (set f y 1) (y + 2) (z + 1) 1 0 (λ u. c (omega arith)) ∙ get_or-set_other f y (z + 1) 1 0 (λ u. b u)) ∙ q) j m in
-          let ww = sides_w k.sweeping.sides in
+          let ww = sides_w sides in
           let e6 : get_or t (spot z j) 0 ≡ get_or s (spot z j) 0 = g.frame (spot z j) (λ y' a' p u. omega (arith, p.0, p.1, ww)) in
           let e11 : get_or t (spot_north z j) 0 ≡ get_or s (spot_north z j) 0 = g.frame (spot_north z j) (λ y' a' p u. omega (arith, p.0, p.1, ww)) in
           let e1 : get_or t (spot_south z j) 0 ≡ get_or s (spot_south z j) 0 = g.frame (spot_south z j) (λ y' a' p u. omega (arith, p.0, p.1, ww)) in

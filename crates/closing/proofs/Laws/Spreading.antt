@@ -3,13 +3,22 @@
 use mathlib.Core.Path.{◌≡◌, sym, ◌∙◌}
 use Prim.Native.Nat.{ℕ, ◌+◌, ◌-◌, ◌*◌, ◌/◌, ◌%◌, ◌^◌, ◌<◌}
 use native.Mathlib.Omega.{arith}
+use native.Mathlib.Nat.{pow-suc}
+use Rattle.std.proofs.Common.{add-one}
 use native.Mathlib.Decide.{dec_lt, ℕ_discrete}
 use lib.Bits.{bit_and, bit_or, or_lt, and_le_r}
-use lib.Pow.{shr_le}
+use lib.Pow.{shr_le, pow-lt}
 use Rattle.bits.specs.Bit.{bit_at}
 use Rattle.bits.specs.Laws.{bit_le, bit_and_lem, bit_or_lem, bit_past, le_or, without}
 use Rattle.bits.specs.Shifts.{bit_shr, shl_set}
 use Rattle.closing.specs.Steps.{Along, here, from_west, from_east, Spread, Beside}
+
+-- A jump of a turn: twice as far as that of the turn before, and at most 32.
+pub power_next : (k : ℕ) → 2 ^ (k + 1) ≡ 2 ^ k * 2
+power_next k = rw add-one (pow-suc 2 k)
+
+pub short : {k : ℕ} → k < 6 → 2 ^ k < 64
+short l = pow-lt l
 
 -- From d places to the west, and to the east, of a set bit of q, this bit is reached.
 pub record East (v p d q : ℕ) : Type 0 where

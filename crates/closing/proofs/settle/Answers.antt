@@ -1,52 +1,30 @@
--- `closing::settle` meets its contract. Every sweep but the last sets a bit, so the words' sum
--- rises, which is bounded; after one that changes nothing every word is still.
-use mathlib.Core.Path.{refl, ◌∙◌}
-use native.Mathlib.Omega.{arith}
+-- `closing::settle` meets its contract. Every sweep but the last sets a bit; after one that changes
+-- nothing every word is still.
+use Rattle.std.proofs.Common.{arith}
 use Rattle.closing.proofs.Laws.Sweeping.{grown_refl, grown_trans, closes, left_less}
 use Rattle.closing.proofs.settle.Goals as goal
+use Rattle.closing.proofs.settle.Goals.{then-sweep-eq0-via-then-sweep-eq0, then-sweep-eq0-via-else-sweep-eq0+then-sweep-eq0-2}
 
-pub loop-w-init : goal.loop-w-init
-loop-w-init c = (grown_refl c.requires.sweeping.rows, c.requires.marks, refl)
+pub sweeps-init : goal.sweeps-init
+sweeps-init c = (grown_refl c.requires.rows, c.requires.marks)
 
-pub sweep_north-requires : goal.sweep_north-requires
-sweep_north-requires c = record { sweeping = record { sides = c.requires.sweeping.sides; rows = c.loop-w.invariant.0.rows }; marks = c.loop-w.invariant.1 }
+pub returns-then-sweep-eq0 : goal.returns-then-sweep-eq0
+returns-then-sweep-eq0 c =
+    let g = c.sweeps.invariant.0 in
+    elim c.then-sweep-eq0.branch [
+      | then-sweep-eq0-via-then-sweep-eq0 w ↦ rw w.c-is (closes c.args.map.within g c.sweep.ensures.sweeps w.if-sweep-eq0.true)
+      | then-sweep-eq0-via-else-sweep-eq0+then-sweep-eq0-2 w ↦
+          rw w.c-is (closes c.args.map.within (grown_trans g c.sweep.ensures.sweeps.grown) w.sweep-else-sweep-eq0.ensures.sweeps w.if-sweep-eq0-2.true)
+    ]
 
-pub shape_of-c-then-sweep_north-eq0 : goal.shape_of-c-then-sweep_north-eq0
-shape_of-c-then-sweep_north-eq0 c = c.sweep_north.ensures.sweeps.grown.size ∙ c.loop-w.invariant.0.size
+pub sweeps-smaller : goal.sweeps-smaller
+sweeps-smaller c =
+    let n = c.sweep.ensures.sweeps in
+    let s = c.sweep-else-sweep-eq0.ensures.sweeps in
+    left_less (grown_trans n.grown s.grown) (omega (arith, n.grown.up, s.more c.if-sweep-eq0-2.false))
 
-pub shape_of-f-then-sweep_north-eq0 : goal.shape_of-f-then-sweep_north-eq0
-shape_of-f-then-sweep_north-eq0 c = c.sweep_north.ensures.size ∙ c.loop-w.invariant.2
-
-pub returns-then-sweep_north-eq0 : goal.returns-then-sweep_north-eq0
-returns-then-sweep_north-eq0 c = (closes c.requires.sweeping.sides c.loop-w.invariant.0 c.sweep_north.ensures.sweeps c.if-sweep_north-eq0.true, c.sweep_north.ensures.size ∙ c.loop-w.invariant.2)
-
-pub sweep_south-requires : goal.sweep_south-requires
-sweep_south-requires c =
-    let n = c.sweep_north.ensures in
-    record { sweeping = record { sides = c.requires.sweeping.sides; rows = n.sweeps.grown.rows }; marks = n.marks }
-
-pub shape_of-c-then-sweep_south-eq0 : goal.shape_of-c-then-sweep_south-eq0
-shape_of-c-then-sweep_south-eq0 c = c.sweep_south.ensures.sweeps.grown.size ∙ c.sweep_north.ensures.sweeps.grown.size ∙ c.loop-w.invariant.0.size
-
-pub shape_of-f-then-sweep_south-eq0 : goal.shape_of-f-then-sweep_south-eq0
-shape_of-f-then-sweep_south-eq0 c = c.sweep_south.ensures.size ∙ c.sweep_north.ensures.size ∙ c.loop-w.invariant.2
-
-pub returns-then-sweep_south-eq0 : goal.returns-then-sweep_south-eq0
-returns-then-sweep_south-eq0 c =
-    let n = c.sweep_north.ensures in
-    let s = c.sweep_south.ensures in
-    let l = c.loop-w.invariant in
-    (closes c.requires.sweeping.sides (grown_trans l.0 n.sweeps.grown) s.sweeps c.if-sweep_south-eq0.true, s.size ∙ n.size ∙ l.2)
-
-pub loop-w-smaller : goal.loop-w-smaller
-loop-w-smaller c =
-    let n = c.sweep_north.ensures.sweeps in
-    let s = c.sweep_south.ensures.sweeps in
-    left_less (grown_trans n.grown s.grown) (omega (arith, n.grown.up, s.more c.if-sweep_south-eq0.false))
-
-pub loop-w-preserved : goal.loop-w-preserved
-loop-w-preserved c =
-    let n = c.sweep_north.ensures in
-    let s = c.sweep_south.ensures in
-    let l = c.loop-w.invariant in
-    (grown_trans l.0 (grown_trans n.sweeps.grown s.sweeps.grown), s.marks, s.size ∙ n.size ∙ l.2)
+pub sweeps-preserved : goal.sweeps-preserved
+sweeps-preserved c =
+    let n = c.sweep.ensures in
+    let s = c.sweep-else-sweep-eq0.ensures in
+    (grown_trans c.sweeps.invariant.0 (grown_trans n.sweeps.grown s.sweeps.grown), s.marks)

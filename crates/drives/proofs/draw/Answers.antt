@@ -5,4 +5,4 @@ use Rattle.drives.proofs.draw.Goals as goal
 
 pub returns : goal.returns
 unfolding drawn
-returns c = omega (arith, c.wrapping_product.ensures, c.wrapping_add_u32.ensures)
+returns c = omega arith

@@ -1,22 +1,40 @@
--- `next_rock` meets its contract. The loop's invariant: no crossing passed is a rock, and there is
--- one ahead, so that the end of the bits is never met. The measure is what is left of them.
-use native.Mathlib.Omega.{arith}
-use Rattle.exchange.proofs.Rocks.{ahead_next, bare_next}
+-- `next_rock` meets its contract: a rock is ahead, so that the first is met, and no crossing before
+-- it is one.
+use Rattle.std.proofs.Common.{◌≡◌, ap, ◌∙◌, sym, ℕ, ◌+◌, ◌-◌, ◌<◌, List, length, get_or, take, drop, arith, length-drop, take_all}
+use Rattle.std.proofs.Math.Decide.{dec_lt}
+use Rattle.std.proofs.Math.Seq.{get_or-drop}
+use Rattle.exchange.specs.Promise.{FirstRock, RockAhead, NextRock}
 use Rattle.exchange.proofs.next_rock.Goals as goal
 
-pub loop-i-init : goal.loop-i-init
-loop-i-init c = (c.requires, omega arith, λ j l m. absurd (omega arith))
+-- What is lent from a place on.
+rest_is : (bits : List ℕ) (from : ℕ) → take (length bits - from) (drop from bits) ≡ drop from bits
+rest_is bits from = take_all (length bits - from) (drop from bits) (omega (arith, length-drop from bits))
 
-pub bounds-bits-i : goal.bounds-bits-i
-bounds-bits-i c = omega (arith, c.loop-i.invariant.0.ahead, c.loop-i.invariant.0.below)
+module _ (bits : List ℕ) (from n : ℕ) (a : RockAhead bits from) (f : FirstRock (drop from bits) n) where
+  met : n < length (drop from bits)
+  met = go (dec_lt n (length (drop from bits)))
+    where
+      ahead : a.place - from < length (drop from bits)
+      ahead = omega (arith, length-drop from bits, a.below, a.ahead)
 
-pub loop-i-preserved : goal.loop-i-preserved
-loop-i-preserved c =
-    let bits = c.args.bits.now in
-    let inv = c.loop-i.invariant in
-    (ahead_next bits c.loop-i.i c.loop-i-test.true inv.0, omega arith, bare_next bits c.loop-i.i c.loop-i-test.true inv.2)
+      there : from + (a.place - from) ≡ a.place
+      there = omega (arith, a.ahead)
+
+      go : Dec (n < length (drop from bits)) → n < length (drop from bits)
+      go (yes l) = l
+      go (no l) =
+          absurd (a.rock (ap (λ (i : ℕ). get_or bits i 0) (sym there) ∙ sym (get_or-drop from bits (a.place - from) 0) ∙ f.bare (a.place - from) (omega (arith, ahead))))
+
+  next : NextRock bits from (from + n)
+  next =
+      record {
+        ahead = omega arith;
+        below = omega (arith, met, length-drop from bits, a.below, a.ahead);
+        rock = λ e. f.rock met (get_or-drop from bits n 0 ∙ e);
+        first = λ i l m.
+            let there : from + (i - from) ≡ i = omega arith in
+            ap (λ (k : ℕ). get_or bits k 0) (sym there) ∙ sym (get_or-drop from bits (i - from) 0) ∙ f.bare (i - from) (omega arith);
+      }
 
 pub returns : goal.returns
-returns c =
-    let inv = c.loop-i.invariant in
-    record { ahead = inv.1; below = omega (arith, inv.0.ahead, inv.0.below); rock = c.loop-i-test.false; first = inv.2 }
+returns c = next c.args.bits.now c.args.from c.bare.result c.requires (rw (rest_is c.args.bits.now c.args.from) at c.bare.ensures)

@@ -1,22 +1,33 @@
--- `write_stamped` meets its contract: each answer is the one of its case. Assumes nothing.
-use mathlib.Core.Path.{refl}
-use mathlib.Core.Logic.{inl}
-use native.Mathlib.Omega.{arith}
-use Rattle.writer.specs.declared.Wrote.TheVariants.{Bytes, Short}
-use Rattle.exchange.proofs.Answers.{rest_written}
+-- `write_stamped` meets its contract: what the writer answers is what the call's third part
+-- promises.
+use Rattle.std.proofs.Common.{refl, ap, ◌∙◌, List, ◌++◌, inl, inr, ℕ, length, drop, arith}
+use Rattle.std.specs.Prelude.{Result, Ok, Err}
+use Rattle.field.specs.declared.refusals.Refusal.{Refusal}
+use Rattle.field.specs.Workings.Sheet.{Marked}
+use Rattle.field.proofs.Workings.Marks.{marked_dec}
+use Rattle.mapfile.proofs.WrittenLaws.{written_one}
+use Rattle.writer.specs.Promise.{Writes}
+use Rattle.calls.specs.Rules.{TooShort}
+use Rattle.exchange.specs.Promise.{WriteRest}
 use Rattle.exchange.proofs.write_stamped.Goals as goal
 
-pub returns-then-n-ne0 : goal.returns-then-n-ne0
-returns-then-n-ne0 c =
-    record { given = inl (c.if-n-ne0.true, refl); kept = λ _. refl; refused = λ _. refl; done = λ z. absurd (c.if-n-ne0.true z) }
+rest : (w h : ℕ) (sheet out out' : List ℕ) (r : Result ℕ Refusal) → Writes w h sheet out out' r → WriteRest w h sheet out out' r
+rest w h sheet out out' (Ok n) q =
+    record {
+      given = inr (fits, refl);
+      done = record {
+        file = q.file;
+        written = q.written;
+        counted = q.counted;
+        is = q.is ∙ ap (λ (j : ℕ). q.file ++ drop j out) q.counted;
+      };
+    }
+  where
+    fits : ¬ TooShort w h (Marked sheet w h) out
+    fits t =
+        omega (arith, t.short, q.fits, q.counted, ap length (written_one w h (Marked sheet w h) (λ x y o. marked_dec sheet w h x y) t.file q.file t.written q.written))
+rest w h sheet out out' (Err r) (e, q) =
+    rw e (record { given = inl (record { file = q.file; written = q.written; short = q.long }, refl); kept = q.same })
 
-pub write-wrote-requires : goal.write-wrote-requires
-write-wrote-requires c = c.requires (omega (arith, c.if-n-ne0.false))
-
-pub returns-in-Bytes : goal.returns-in-Bytes
-returns-in-Bytes c =
-    rest_written (Bytes _) (omega (arith, c.if-n-ne0.false)) (rw c.in-Bytes.is at c.write-wrote.ensures)
-
-pub returns-in-Short : goal.returns-in-Short
-returns-in-Short c =
-    rest_written Short (omega (arith, c.if-n-ne0.false)) (rw c.in-Short.is at c.write-wrote.ensures)
+pub returns : goal.returns
+returns c = rest _ _ _ _ _ c.write.result c.write.ensures

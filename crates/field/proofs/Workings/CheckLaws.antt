@@ -7,7 +7,7 @@ use mathlib.Core.List.{List, [], ◌∷◌}
 use Rattle.std.proofs.Math.ListN.{length, get_or, drop, length-drop}
 use Rattle.std.proofs.Math.Seq.{drop-cons}
 use Rattle.field.specs.Map.{On, number}
-use Rattle.field.specs.declared.Finding.{Finding}
+use Rattle.field.specs.Checks.{Finding}
 use Rattle.field.specs.Reasons.{wrong_start, is_closed}
 use Rattle.field.specs.Checks.{Has, WentOn, Finds, at_fault}
 use Rattle.field.specs.Workings.Tests.{and_split, and_both, cond_cases}

@@ -5,8 +5,8 @@ use Rattle.std.proofs.Common.{sym, ◌∙◌, subst, inl, inr, arith, eqb-true}
 use Rattle.std.proofs.Math.Decide.{ℕ_discrete, dec_lt}
 use Rattle.std.proofs.lemmas.Bool.{eqb-false}
 use Rattle.field.specs.Map.{Near, dist}
-use Rattle.field.specs.declared.Finding.{Finding}
-use Rattle.field.specs.declared.Step.{Step}
+use Rattle.field.specs.Checks.{Finding}
+use Rattle.field.specs.Workings.Checking.{Step}
 use Rattle.field.specs.Rule.{Gives}
 use Rattle.field.specs.Reasons.{no_fault, ended_early, went_on}
 use Rattle.field.specs.Checks.{reasons, Has, Hop, WrongStart, OffTheMap, IsClosed, NotNeighbour, EndedEarly, WentOn, Sound, Finds, accepted, at_fault}

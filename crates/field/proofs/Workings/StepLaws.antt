@@ -10,7 +10,7 @@ use Rattle.std.proofs.Math.Decide.{dec_lt}
 use Rattle.std.proofs.Math.Dec.{ltb}
 use Rattle.std.proofs.Math.ListN.{get_or}
 use borrow.Author.Tests.{ltb-true, ltb-false, eqb-true, eqb-false, lt-ltb, eq-eqb}
-use Rattle.field.specs.declared.Step.{Step}
+use Rattle.field.specs.Workings.Checking.{Step}
 use Rattle.field.specs.Map.{On, number, Near, east, west, north, south, gap, dist}
 use Rattle.field.specs.Reasons.{no_fault, off_the_map, is_closed, not_a_neighbour, not_nearer}
 use Rattle.field.specs.Workings.Tests.{and_split, and_both, cond_cases}

@@ -1,10 +1,16 @@
 -- Workings: the check of a drawn list, over a sheet s that marks the closed crossings. Each number
 -- is looked at once, against the crossing before it.
 use Rattle.std.specs.Prelude.{Bool, cond, ◌&&◌, List, [], ◌∷◌, ℕ, ◌+◌, ◌-◌, ◌*◌, ltb, eqb, get_or}
-use Rattle.field.specs.declared.Finding.{Finding}
-use Rattle.field.specs.declared.Step.{Step}
+use Rattle.field.specs.Checks.{Finding}
 use Rattle.field.specs.Map.{number}
 use Rattle.field.specs.Reasons.{no_fault, wrong_start, off_the_map, is_closed, not_a_neighbour, not_nearer, ended_early, went_on}
+
+-- What is found of one number of a drawn list: the first reason that applies to it; or none, and
+-- the crossing.
+pub record Step : Type 0 where
+  pub reason : ℕ
+  pub x : ℕ
+  pub y : ℕ
 
 -- One number that is at fault.
 abbrev pub fault : ℕ → Step

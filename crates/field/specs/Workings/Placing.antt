@@ -1,6 +1,6 @@
 -- Working: a depot's four numbers, one crossing after the other, from three tests on each.
 use Rattle.std.specs.Prelude.{Bool, not, ◌&&◌}
-use Prim.Native.Nat.{ℕ, zero, suc, ◌+◌, ◌≤◌}
+use Prim.Native.Nat.{ℕ, zero, suc, ◌+◌, ◌^◌, ◌<◌, ◌≤◌}
 use Rattle.field.specs.declared.Placing.{Placing}
 use Rattle.field.specs.Depots.{four, all_zero}
 use Rattle.field.specs.Workings.Tests.{bit}
@@ -20,6 +20,13 @@ total_to (suc n) f = plus (total_to n f) (f n)
 
 abbrev pub total : ℕ → ℕ → (ℕ → ℕ → Placing) → Placing
 total w h f = total_to h (λ y. total_to w (λ x. f x y))
+
+-- Each of the four fits 64 bits.
+pub record Fitting (p : Placing) : Type 0 where
+  pub opens_fit : p.opens < 2 ^ 64
+  pub assured_fit : p.assured < 2 ^ 64
+  pub driven_fit : p.driven < 2 ^ 64
+  pub stranded_fit : p.stranded < 2 ^ 64
 
 -- Each of the four is at most k.
 pub record AtMost (k : ℕ) (p : Placing) : Type 0 where

@@ -1,6 +1,8 @@
 -- `read_map` meets its contract: no header, sides out of bounds, or what the raster tells, in that
 -- order.
-use Rattle.header.specs.Answers.{answered_no}
+use mathlib.Core.Path.{◌≡◌}
+use Rattle.std.proofs.lemmas.Result.{err_from_is_err_and}
+use Rattle.field.specs.declared.refusals.Refusal.TheVariants.{BadSize}
 use Rattle.header.specs.Found.{head_found, head_missing}
 use Rattle.following.proofs.Telling.{header_none, sides_bad}
 use Rattle.following.proofs.read_map.Goals as goal
@@ -9,23 +11,16 @@ pub headless-requires : goal.headless-requires
 headless-requires c =
     record {
       lettered = c.requires.lettered;
-      none = header_none (head_missing _ _ _ _ c.header-head.auto.numbers c.header-head.ensures c.in_default.is);
+      none = header_none (head_missing c.args.src.now 2 c.header.new.numbers c.header.auto.numbers c.in_default.ensures);
     }
 
 pub returns-in_default : goal.returns-in_default
 returns-in_default c = c.headless.ensures _
 
-pub returns-then-not-sized : goal.returns-then-not-sized
-returns-then-not-sized c =
-    let found = (head_found _ _ _ _ _ c.header-head.auto.numbers c.header-head.ensures c.in-Body.is).1 in
-    sides_bad c.requires.lettered.letters found (answered_no c.if-not-sized.true c.sized.ensures.1)
-
-pub read_raster-requires : goal.read_raster-requires
-read_raster-requires c =
-    let found = head_found _ _ _ _ _ c.header-head.auto.numbers c.header-head.ensures c.in-Body.is in
-    record {
-      within = found.0;
-      begins = record { after = _; letters = c.requires.lettered.letters; header = found.1 };
-      sides = c.sized.ensures.0 c.if-not-sized.false;
-      room = c.requires.room;
-    }
+pub returns-in_err-map : goal.returns-in_err-map
+returns-in_err-map c =
+    let p = err_from_is_err_and c.from_residual.result c.from_residual.ensures.1 in
+    let is : c.in_err-map.field-0.0 ≡ BadSize = let v = rw c.in_err-map.ensures.ok_part at c.in_err-map.ensures.value in cc in
+    rw (p.1, p.2, is)
+    (sides_bad c.requires.lettered.letters (head_found c.header.auto.numbers c.in-Some.ensures)
+    (rw c.in_err-map.ensures.ok_part at c.sized.ensures))

@@ -2,7 +2,7 @@
 -- leading to the same end; where a loop stops, or hands on to the other skipper, the end that comes
 -- back is the end from where it began.
 use Rattle.header.specs.HeaderParts.{gap_at}
-use Rattle.header.specs.Answers.{answered_no}
+use Rattle.std.proofs.lemmas.Bool.Decides.{not_from_Decides}
 use Rattle.header.proofs.Skipping.{blanks_more, blanks_hash, blanks_stop, blanks_end, comment_more, comment_end, comment_open}
 use Rattle.header.proofs.+skip_blanks_skip_comment.Goals as goal
 
@@ -13,7 +13,7 @@ skip_blanks-returns-then-bytes-i-eq35 t c =
 pub skip_blanks-returns-then-not-is_blank : goal.skip_blanks-returns-then-not-is_blank
 skip_blanks-returns-then-not-is_blank t c =
     blanks_stop c.loop-i.invariant (gap_at c.gap_end.result) c.loop-i-test.true
-    (answered_no c.if-not-is_blank.true c.is_blank.ensures.1)
+    (not_from_Decides _ c.is_blank.ensures c.if-not-is_blank.true)
     c.if-bytes-i-eq35.false
     c.gap_end.ensures
 
@@ -33,7 +33,7 @@ skip_comment-returns-then-is_line_end t c =
 
 pub skip_comment-loop-i-preserved : goal.skip_comment-loop-i-preserved
 skip_comment-loop-i-preserved t c =
-    comment_more c.loop-i.invariant c.loop-i-test.true (answered_no c.if-is_line_end.false c.is_line_end.ensures.1)
+    comment_more c.loop-i.invariant c.loop-i-test.true (not_from_Decides _ c.is_line_end.ensures c.if-is_line_end.false)
 
 pub skip_comment-returns : goal.skip_comment-returns
 skip_comment-returns t c = comment_open c.loop-i.invariant c.loop-i-test.false

@@ -14,11 +14,5 @@ decreases-skip_comment l = length l.src.now.now - l.at
 abbrev pub invariant-skip_blanks-loop-i : goal.invariant-skip_blanks-loop-i
 invariant-skip_blanks-loop-i l = SkippingBlanks l.bytes l.at l.seen l.i l.any
 
-abbrev pub decreases-skip_blanks-loop-i : goal.decreases-skip_blanks-loop-i
-decreases-skip_blanks-loop-i l = length l.bytes - l.i
-
 abbrev pub invariant-skip_comment-loop-i : goal.invariant-skip_comment-loop-i
 invariant-skip_comment-loop-i l = SkippingComment l.bytes l.at l.seen l.i
-
-abbrev pub decreases-skip_comment-loop-i : goal.decreases-skip_comment-loop-i
-decreases-skip_comment-loop-i l = length l.bytes - l.i

@@ -1,33 +1,26 @@
 -- `header` meets its contract: each number read goes before those that follow, and after the last
 -- the one blank byte ends the header.
 use native.Mathlib.Omega.{arith}
-use Rattle.header.proofs.Heading.{gap_ends, gap_missing, numeral_value, numeral_missing}
-use Rattle.header.proofs.Counting.{counting_start, counting_more, counting_stops, counting_ends, counting_unended}
+use Prim.Native.Nat.{ℕ}
+use lib.ListN.{length-set}
+use Rattle.header.proofs.Counting.{counting_start, counting_more, counting_stops, counting_ends}
 use Rattle.header.proofs.header.Goals as goal
 
-pub loop-k-init : goal.loop-k-init
-loop-k-init c =
+pub loop-n-init : goal.loop-n-init
+loop-n-init c =
     let a = c.args in
     counting_start a.src.now a.at a.numbers.now c.requires
 
-pub returns-in_default : goal.returns-in_default
-returns-in_default c =
-    let l = c.loop-k in
-    counting_stops l.invariant (omega (arith, l.invariant.size)) (numeral_missing _ _ _ c.next_number-next.ensures c.in_default.is)
+pub returns-in_err-next : goal.returns-in_err-next
+returns-in_err-next c =
+    let l = c.loop-n in
+    rw c.from_residual.ensures
+    (λ vs body e. counting_stops l.invariant c.loop-n-test.true c.in_err-next.ensures vs body (omega (arith, e, length-set {A = ℕ}, l.auto.numbers)))
 
-pub loop-k-preserved : goal.loop-k-preserved
-loop-k-preserved c =
-    let l = c.loop-k in
-    let v = numeral_value _ _ _ _ _ c.next_number-next.ensures c.in-Value.is in
-    counting_more l.invariant _ _ (omega (arith, l.invariant.size)) v.0 v.1
+pub loop-n-preserved : goal.loop-n-preserved
+loop-n-preserved c =
+    let l = c.loop-n in
+    counting_more l.invariant _ _ (omega (arith, l.invariant.size)) c.in_ok-next.ensures.0 c.in_ok-next.ensures.1
 
-pub returns-in-Ends : goal.returns-in-Ends
-returns-in-Ends c =
-    let l = c.loop-k in
-    let e = gap_ends _ _ _ _ c.one_blank-last.ensures c.in-Ends.is in
-    counting_ends l.invariant (omega (arith, l.invariant.size)) _ e.0 e.1
-
-pub returns-in-Missing : goal.returns-in-Missing
-returns-in-Missing c =
-    let l = c.loop-k in
-    counting_unended l.invariant (omega (arith, l.invariant.size)) (gap_missing _ _ _ c.one_blank-last.ensures c.in-Missing.is)
+pub returns : goal.returns
+returns c = counting_ends c.loop-n.invariant c.loop-n-test.false c.one_blank.result c.one_blank.ensures

@@ -1,17 +1,14 @@
 -- `number` meets its contract: the loop keeps Numbering, and the value stays small enough for a
 -- tenth of what a `usize` holds.
 use native.Mathlib.Omega.{arith}
-use Rattle.header.specs.Answers.{answered_no}
-use Rattle.header.proofs.Numbering.{value_small, numbering_start, numbering_more, numbering_many, numbering_stop, numbering_end}
+use Rattle.std.proofs.lemmas.Bool.Decides.{not_from_Decides}
+use Rattle.header.proofs.Numbering.{value_small, numbering_more, numbering_many, numbering_stop, numbering_end}
 use Rattle.header.proofs.number.Goals as goal
-
-pub loop-i-init : goal.loop-i-init
-loop-i-init c = numbering_start _ _ c.requires
 
 pub returns-then-not-is_digit : goal.returns-then-not-is_digit
 returns-then-not-is_digit c =
     numbering_stop c.loop-i.invariant c.numeral_end.result c.loop-i-test.true
-    (answered_no c.if-not-is_digit.true c.is_digit.ensures.1)
+    (not_from_Decides _ c.is_digit.ensures c.if-not-is_digit.true)
     c.numeral_end.ensures
 
 pub returns-then-i-at-eq-MOST_DIGITS : goal.returns-then-i-at-eq-MOST_DIGITS
@@ -21,18 +18,13 @@ returns-then-i-at-eq-MOST_DIGITS c =
 pub overflow_mul-v : goal.overflow_mul-v
 overflow_mul-v c = omega (arith, value_small c.loop-i.invariant)
 
-pub overflow_sub-v : goal.overflow_sub-v
-overflow_sub-v c = omega (arith, (c.is_digit.ensures.0 c.if-not-is_digit.false).from_zero)
-
-pub overflow_cast-v : goal.overflow_cast-v
-overflow_cast-v c = omega (arith, (c.is_digit.ensures.0 c.if-not-is_digit.false).to_nine)
-
 pub overflow_add-v : goal.overflow_add-v
-overflow_add-v c = omega (arith, (c.is_digit.ensures.0 c.if-not-is_digit.false).to_nine, value_small c.loop-i.invariant)
+overflow_add-v c =
+    omega (arith, c.from.ensures, (c.is_digit.ensures.0 c.if-not-is_digit.false).to_nine, value_small c.loop-i.invariant)
 
 pub loop-i-preserved : goal.loop-i-preserved
 loop-i-preserved c =
-    numbering_more c.loop-i.invariant c.loop-i-test.true (c.is_digit.ensures.0 c.if-not-is_digit.false) c.if-i-at-eq-MOST_DIGITS.false
+    rw c.from.ensures (numbering_more c.loop-i.invariant c.loop-i-test.true (c.is_digit.ensures.0 c.if-not-is_digit.false) c.if-i-at-eq-MOST_DIGITS.false)
 
 pub returns : goal.returns
 returns c = numbering_end c.loop-i.invariant c.numeral_end-2.result c.loop-i-test.false c.numeral_end-2.ensures

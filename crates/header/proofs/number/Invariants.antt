@@ -1,12 +1,7 @@
 -- `number` meets its contract: the loop keeps Numbering, and the value stays small enough for a
 -- tenth of what a `usize` holds.
-use Prim.Native.Nat.{◌-◌}
-use lib.ListN.{length}
 use Rattle.header.proofs.Numbering.{Numbering}
 use Rattle.header.proofs.number.Given as goal
 
 abbrev pub invariant-loop-i : goal.invariant-loop-i
 invariant-loop-i l = Numbering l.src l.at l.v l.i
-
-abbrev pub decreases-loop-i : goal.decreases-loop-i
-decreases-loop-i l = length l.src - l.i

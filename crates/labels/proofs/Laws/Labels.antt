@@ -20,9 +20,8 @@ use Rattle.bits.specs.Ones.{ones_row}
 use Rattle.rows.specs.Layout.{words, words_of, spot, spot_south, spot_west, sides_w}
 use Rattle.rows.specs.Rows.{word_at, bit_in, Lit, Place, Rows}
 use Rattle.rows.specs.Sheets.{Drawn, Wrote, Putting}
-use Rattle.closing.specs.Growth.{Sweeping}
 use Rattle.closing.specs.Closes.{Closes}
-use Rattle.labels.specs.declared.Labelled.{Labelled}
+use Rattle.field.specs.declared.Labelled.{Labelled}
 use Rattle.labels.specs.Promise.{Stamped, Stones, Labels}
 use Rattle.labels.specs.Counting.{shut_at, west_at, corners_at, Counted}
 use Rattle.labels.specs.Memory.{Ready}
@@ -217,12 +216,12 @@ module _ {w h : ℕ} {s t marks c : List ℕ} {r : Labelled} (S : Stamped w h s)
 -- What writing and counting ask.
 pub putting : {w h : ℕ} {s marks c : List ℕ} → Stamped w h s → Drawn w h s marks → Closes w h marks c → Putting w h marks c s
 putting S D K =
-    record { sides = S.sides; size = S.size; long_rock = D.rows.long; long_c = K.rows.long; fair = λ x y o. inl (sym (D.drawn x y o)) }
+    record { size = S.size; fair = λ x y o. inl (sym (D.drawn x y o)) }
 
 -- What closing asks of words that are ready, and what it promises: the rocks are what is lit in
 -- rock.
-pub ready_sweeping : {w h : ℕ} {s marks c : List ℕ} → Ready w h s marks c → Sweeping w h c
-ready_sweeping p = record { sides = p.stamped.sides; rows = rw p.same p.drawn.rows }
+pub ready_rows : {w h : ℕ} {s marks c : List ℕ} → Ready w h s marks c → Rows w h c
+ready_rows p = rw p.same p.drawn.rows
 
 pub ready_closes : {w h : ℕ} {s marks c t : List ℕ} → Ready w h s marks c → Closes w h c t → Closes w h marks t
 ready_closes p k = rw p.same at k

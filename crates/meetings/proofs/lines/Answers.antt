@@ -1,35 +1,20 @@
 -- `lines` meets its promise: columns and rows are searched as lines of the rectangle.
-use native.Mathlib.Omega.{arith}
-use Rattle.meetings.proofs.LineLaws.{columns_laid, rows_laid, column_there, column_first, column_none, row_there, row_first, row_none}
+use Rattle.meetings.proofs.LineLaws.{columns_laid, rows_laid, column_none, row_none, lines_met}
 use Rattle.meetings.proofs.lines.Goals as goal
 
-pub first_open-column-requires : goal.first_open-column-requires
-first_open-column-requires c =
-    columns_laid c.requires c.between-x.ensures c.between-y.ensures c.number_of-i.ensures.is
+pub first_open-requires : goal.first_open-requires
+first_open-requires c = columns_laid c.requires c.between-x.ensures c.between-y.ensures c.number_of-first.ensures.is _ c.args.s.fits
 
-pub returns-then-column-x : goal.returns-then-column-x
-returns-then-column-x c t =
-    column_none c.requires c.between-x.ensures c.between-y.ensures c.number_of-i.ensures.is
-    c.first_open-column.ensures (omega (arith, c.if-column-x.true)) t.column t.column_open
+pub returns-in_err-column : goal.returns-in_err-column
+returns-in_err-column c =
+    rw c.from_residual.ensures (column_none c.requires c.between-x.ensures c.between-y.ensures c.number_of-first.ensures.is _ c.args.s.fits c.in_err-column.ensures)
 
-pub first_open-row-requires : goal.first_open-row-requires
-first_open-row-requires c =
-    rows_laid c.requires c.between-x.ensures c.between-y.ensures c.number_of-i.ensures.is
+pub first_open-requires-2 : goal.first_open-requires-2
+first_open-requires-2 c = rows_laid c.requires c.between-x.ensures c.between-y.ensures c.number_of-first.ensures.is _ c.args.s.fits
 
-pub returns-then-row-y : goal.returns-then-row-y
-returns-then-row-y c t =
-    row_none c.requires c.between-x.ensures c.between-y.ensures c.number_of-i.ensures.is
-    c.first_open-row.ensures (omega (arith, c.if-row-y.true)) t.row t.row_open
+pub returns-in_err-row : goal.returns-in_err-row
+returns-in_err-row c =
+    rw c.from_residual-in_err-row.ensures (row_none c.requires c.between-x.ensures c.between-y.ensures c.number_of-first.ensures.is _ c.args.s.fits c.in_err-row.ensures)
 
 pub returns : goal.returns
-returns c =
-    let k = c.requires in
-    let x = c.between-x.ensures in
-    let y = c.between-y.ensures in
-    let i = c.number_of-i.ensures.is in
-    record {
-      column_open = column_there k x y i c.first_open-column.ensures (omega (arith, c.if-column-x.false, c.first_open-column.ensures.most));
-      westmost = column_first k x y i c.first_open-column.ensures;
-      row_open = row_there k x y i c.first_open-row.ensures (omega (arith, c.if-row-y.false, c.first_open-row.ensures.most));
-      southmost = row_first k x y i c.first_open-row.ensures;
-    }
+returns c = lines_met c.requires c.between-x.ensures c.between-y.ensures c.number_of-first.ensures.is _ c.args.s.fits c.in_ok-column.ensures c.in_ok-row.ensures

@@ -1,11 +1,7 @@
--- `write_rows` meets its contract: after r turns the r northmost rows stand at the front.
-use Prim.Native.Nat.{◌+◌, ◌*◌, ◌-◌, ◌≤◌}
-use Rattle.packing.specs.Packing.{pieces, row_of}
-use Rattle.packing.proofs.Filling.{Filled}
+-- The rows that `write_rows` has written are those of the map, the northmost first.
+use Rattle.std.proofs.Common.{◌+◌, ◌-◌}
+use Rattle.packing.specs.Packing.{row_of}
 use Rattle.packing.proofs.write_rows.Given as goal
 
-abbrev pub invariant-loop-r : goal.invariant-loop-r
-invariant-loop-r l = (l.r ≤ l.h) × Filled (pieces l.r (λ i. row_of l.s l.w (l.h - (i + 1)))) (l.r * l.row) l.initial.out l.out
-
-abbrev pub decreases-loop-r : goal.decreases-loop-r
-decreases-loop-r l = l.h - l.r
+abbrev pub ghost-each_row : goal.ghost-each_row
+ghost-each_row a = λ r. row_of a.put.0.now a.put.1 (a.h - (r + 1))

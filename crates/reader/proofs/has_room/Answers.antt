@@ -1,14 +1,11 @@
--- `has_room` meets its contract: each failed test is one bound.
+-- `has_room` meets its contract: the first bound holds, and the second is the answer.
 use native.Mathlib.Omega.{arith}
-use Rattle.header.specs.Answers.{answer_yes, answer_no}
+use borrow.Author.Tests.{leb-true, le-leb}
 use Rattle.field.specs.Limits.{most_markers_is}
 use Rattle.reader.proofs.has_room.Goals as goal
 
-pub returns-then-lent-rocks : goal.returns-then-lent-rocks
-returns-then-lent-rocks c = answer_no (λ s. omega (arith, s.room))
-
-pub returns-then-rocks-gt-MOST_MARKERS : goal.returns-then-rocks-gt-MOST_MARKERS
-returns-then-rocks-gt-MOST_MARKERS c = answer_no (λ s. omega (arith, s.few, most_markers_is))
-
-pub returns : goal.returns
-returns c = answer_yes (record { room = omega arith; few = omega (arith, most_markers_is) })
+pub returns-then-rocks-lent : goal.returns-then-rocks-lent
+returns-then-rocks-lent c = (
+  λ e. let few = leb-true c.args.rocks _ e in record { room = c.if-rocks-lent.true; few = omega (arith, most_markers_is) },
+  λ s. le-leb c.args.rocks _ (omega (arith, s.few, most_markers_is)),
+)

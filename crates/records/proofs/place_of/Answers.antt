@@ -1,12 +1,13 @@
--- `place_of` meets its contract: ids rise, so the one in the middle settles all on one side of it.
-use Rattle.std.proofs.Common.{arith}
-use Rattle.markers.specs.Laws.Placing.{placing_up, placing_down}
+-- `place_of` meets its contract: the ids rise, so those below the one looked for come first.
+use Rattle.std.proofs.Common.{rules}
+use Rattle.std.proofs.Math.Dec.{ltb}
+use Rattle.field.specs.declared.Marker.{Marker}
+use Rattle.std.proofs.lemmas.List.Sorted.{IsPartitionPoint-from_clause}
+use Rattle.records.proofs.Seeking.{by_id, belongs}
 use Rattle.records.proofs.place_of.Goals as goal
 
-pub loop-lo-preserved-then-list-mid : goal.loop-lo-preserved-then-list-mid
-loop-lo-preserved-then-list-mid c =
-    placing_up _ c.requires.rising (omega arith) c.if-list-mid.true c.loop-lo.invariant
-
-pub loop-lo-preserved : goal.loop-lo-preserved
-loop-lo-preserved c =
-    placing_down _ c.requires.rising (omega arith) (omega arith) c.if-list-mid.false c.loop-lo.invariant
+pub returns : goal.returns
+returns c =
+    belongs _ c.requires
+    (IsPartitionPoint-from_clause (λ (m : Marker). ltb m.id c.args.id) _ _ c.partition_point.ensures.partitioned (by_id _ c.requires) (λ a r q k. search rules))
+    c.partition_point.ensures.bound

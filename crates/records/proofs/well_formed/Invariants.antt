@@ -1,11 +1,8 @@
 -- The loop of `well_formed` keeps Forming: all markers passed are well formed, and `last` is the id
--- of the one before. Fewer are left with each turn.
-use Rattle.std.proofs.Common.{◌-◌}
+-- of the one before.
+use Rattle.std.proofs.Common.{◌≡◌}
 use Rattle.records.proofs.Forming.{Forming}
 use Rattle.records.proofs.well_formed.Given as goal
 
-abbrev pub invariant-loop-k : goal.invariant-loop-k
-invariant-loop-k l = Forming l.w l.h l.list l.count l.last l.k
-
-abbrev pub decreases-loop-k : goal.decreases-loop-k
-decreases-loop-k l = l.count - l.k
+abbrev pub invariant-loop-m : goal.invariant-loop-m
+invariant-loop-m l = Forming l.w l.h l.list l.count l.last l.m-index × (l.passed ≡ l.m-index)

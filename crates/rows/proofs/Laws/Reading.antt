@@ -16,7 +16,7 @@ use Rattle.rows.specs.Sheets.{Reading, Drawing, Drawn}
 use Rattle.rows.specs.Laws.{by_set}
 use Rattle.rows.proofs.Laws.Widths.{at_word}
 
-pub draw_start : {D : ℕ → ℕ → Type 0} {w h : ℕ} {s c : List ℕ} → Reading w h s c → ((b a : ℕ) → D b a → ⊥) → Drawing D w h s c
+pub draw_start : {D : ℕ → ℕ → Type 0} {w h : ℕ} {s c : List ℕ} → Reading h s c → ((b a : ℕ) → D b a → ⊥) → Drawing D w h s c
 draw_start {D} {w} {h} {s} {c} r n =
     record {
       rows = record { long = r.long; words = λ i. omega (arith, r.blank i); narrow = λ i k e. absurd (omega (arith, zero_bit (get_or c i 0) k (r.blank i))) };

@@ -32,7 +32,7 @@ wrote_all k f = record { size = f.size; done = λ x y o d. f.done x y o (k y (x 
 
 pub putting_next : {D : ℕ → ℕ → Type 0} {w h : ℕ} {rock c s t : List ℕ} → Putting w h rock c s → Wrote D w h rock c s t → Putting w h rock c t
 putting_next p f =
-    record { sides = p.sides; size = f.size ∙ p.size; long_rock = p.long_rock; long_c = p.long_c; fair = f.fair }
+    record { size = f.size ∙ p.size; fair = f.fair }
 
 module _ {w h y j n : ℕ} {rock c s : List ℕ} (p : PuttingWord w h y j n rock c s) where
   -- Nothing is shut.

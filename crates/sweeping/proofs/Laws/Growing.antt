@@ -8,12 +8,14 @@ use native.Mathlib.Omega.{arith}
 use native.Mathlib.Decide.{dec_lt, ℕ_discrete}
 use lib.ListN.{length, get_or, set, length-set}
 use lib.Seq.{get_or-set_same, get_or-set_other}
-use Rattle.field.specs.Map.{On, number, at}
+use Rattle.std.specs.Prelude.{Option, None, Some}
+use Rattle.field.specs.declared.Place.{Place}
+use Rattle.field.specs.Map.{Sides, On, number, at}
 use Rattle.field.specs.Workings.Sheet.{around}
 use Rattle.field.proofs.Workings.GridLaws.{number_one}
 use Rattle.field.specs.Workings.MarkCount.{marks, marks_set, marks_le_length}
 use Rattle.field.specs.Limits.{crossing_slots, crossings_few}
-use Rattle.sweeping.specs.Steps.{new_mark, old, before, Queued, Ready, Grows, Judged, JudgedAt, AllJudged}
+use Rattle.sweeping.specs.Steps.{new_mark, old, before, Queued, Ready, Grows, Judged, JudgedPlace, JudgedAt, AllJudged}
 use Rattle.sweeping.proofs.Laws.Before.{before_same}
 
 -- Nothing is added.
@@ -46,11 +48,15 @@ module _ {w h : ℕ} {s q s' q' : List ℕ} {n n' : ℕ} (g : Grows w h s q n s'
 
   pub grows_ready : Ready w h s q n → Ready w h s' q' n'
   grows_ready r =
-      record { sides = r.sides; size = g.size ∙ r.size; room = omega (arith, g.room, r.room); few = omega (arith, g.count, r.few) }
+      record { size = g.size ∙ r.size; room = omega (arith, g.room, r.room); few = omega (arith, g.count, r.few) }
 
   -- What is judged stays judged.
   pub grows_judged : {t : List ℕ} {x y : ℕ} → Judged w h t s x y → Judged w h t s' x y
   grows_judged {t} {x} {y} j = record { done = λ o l. omega (arith, g.kept (number w x y) (j.done o l), j.done o l) }
+
+  pub place_judged : (t : List ℕ) (p : Option Place) → JudgedPlace w h t s p → JudgedPlace w h t s' p
+  place_judged t None j = tt
+  place_judged t (Some p) j = grows_judged j
 
   pub grows_all_judged : {t : List ℕ} {i : ℕ} → AllJudged w h t s i → AllJudged w h t s' i
   grows_all_judged j = record { each = λ x y a b o e k. grows_judged (j.each x y a b o e k) }
@@ -58,6 +64,10 @@ module _ {w h : ℕ} {s q s' q' : List ℕ} {n n' : ℕ} (g : Grows w h s q n s'
   -- To be judged is the same at any moment of the sweep.
   pub judged_before : {t : List ℕ} {x y : ℕ} → Judged w h s' t x y → Judged w h s t x y
   judged_before {t} {x} {y} j = record { done = λ o l. j.done o (rw grows_before l) }
+
+  pub place_before : (t : List ℕ) (p : Option Place) → JudgedPlace w h s' t p → JudgedPlace w h s t p
+  place_before t None j = tt
+  place_before t (Some p) j = judged_before j
 
   pub all_judged_before : {t : List ℕ} {i : ℕ} → AllJudged w h s' t i → AllJudged w h s t i
   all_judged_before j = record { each = λ x y a b o e k. judged_before (j.each x y a b o e k) }
@@ -112,8 +122,8 @@ module _ {w h : ℕ} {s q s₁ q₁ s₂ q₂ : List ℕ} {n n₁ n₂ : ℕ} (g
       behind j a b (no l) = let v = k.behind j (omega arith) b in (open-before (get_or q₂ j 0) v.0, v.1)
 
 -- One crossing, of number i, is added.
-module _ {w h : ℕ} {s q : List ℕ} {n : ℕ} (r : Ready w h s q n) (x y : ℕ) (o : On w h x y) {i : ℕ} (is : i ≡ number w x y) (inside : i < length s)
-    (free : get_or s i 0 ≡ 0) (two : 2 ≤ around (before s) w h x y) where
+module _ {w h : ℕ} {s q : List ℕ} {n : ℕ} (sides : Sides w h) (r : Ready w h s q n) (p : Place) (o : On w h p.x p.y) {i : ℕ} (is : i ≡ number w p.x p.y) (inside : i < length s)
+    (free : get_or s i 0 ≡ 0) (two : 2 ≤ around (before s) w h p.x p.y) where
   abbrev s' : List ℕ
   s' = set s i new_mark
 
@@ -125,7 +135,7 @@ module _ {w h : ℕ} {s q : List ℕ} {n : ℕ} (r : Ready w h s q n) (x y : ℕ
 
   -- There is room for one more: a sheet with an open crossing has fewer marks than crossings.
   pub room_left : n < length q
-  room_left = omega (arith, marked, marks_le_length s', length-set s i new_mark, r.few, r.size, r.room, crossings_few r.sides)
+  room_left = omega (arith, marked, marks_le_length s', length-set s i new_mark, r.few, r.size, r.room, crossings_few sides)
 
   here : get_or s' i 0 ≡ new_mark
   here = get_or-set_same s i new_mark 0 inside
@@ -158,13 +168,9 @@ module _ {w h : ℕ} {s q : List ℕ} {n : ℕ} (r : Ready w h s q n) (x y : ℕ
       fair a b e f (yes k) v = let c = number_one o v (k ∙ is) in rw (c.0, c.1) two
       fair a b e f (no k) v = absurd (omega (arith, other (number w a b) k))
 
-  pub judged_one : JudgedAt w h x y s q n s' q' (n + 1)
+  pub judged_one : JudgedAt w h (Some p) s q n s' q' (n + 1)
   judged_one = record { grows = grows_one; judged = record { done = λ v l. omega (arith, here, ap (λ (k : ℕ). get_or s' k 0) is) } }
 
--- Nothing is done where nothing is to be done.
-pub judged_still : {w h x y : ℕ} {s q : List ℕ} {n : ℕ} → (On w h x y → 2 ≤ around (before s) w h x y → 0 < at s w x y) → JudgedAt w h x y s q n s q n
-judged_still {w} {h} {x} {y} {s} {q} {n} f = record { grows = grows_refl w h s q n; judged = record { done = f } }
-
 -- The queue is never longer than the map.
-pub ready_few : {w h : ℕ} {s q : List ℕ} {n : ℕ} → Ready w h s q n → n ≤ crossing_slots
-ready_few {s = s} r = omega (arith, r.few, marks_le_length s, r.size, crossings_few r.sides)
+pub ready_few : {w h : ℕ} {s q : List ℕ} {n : ℕ} → Sides w h → Ready w h s q n → n ≤ crossing_slots
+ready_few {s = s} z r = omega (arith, r.few, marks_le_length s, r.size, crossings_few z)

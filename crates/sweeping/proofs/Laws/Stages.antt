@@ -215,7 +215,6 @@ module _ {R : ℕ → ℕ → Type 0} {w h k : ℕ} {s q : List ℕ} {lo hi : �
               record {
                 ready =
                     record {
-                      sides = S.part.ready.sides;
                       size = next_size ∙ size;
                       room = omega (arith, T.swept.grows.room, S.part.ready.room);
                       few = omega (arith, T.swept.grows.count, S.part.ready.few, marks_kept);
@@ -244,7 +243,7 @@ first_stage {w} {h} {s} {q} {q'} {n} S r g =
     record {
       part =
           record {
-            ready = record { sides = S.sides; size = S.size; room = omega (arith, g.room); few = omega (arith, g.count) };
+            ready = record { size = S.size; room = omega (arith, g.room); few = omega (arith, g.count) };
             order = omega arith;
             numbers = λ j a b. omega (arith, g.numbers j a b, S.size);
           };

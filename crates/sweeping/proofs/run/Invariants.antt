@@ -1,15 +1,12 @@
--- `run` meets its contract. The loop's invariant: k sweeps are made, each changed something, and
--- the queue has what the last of them closed. The queue's end rises, and is never past the map's
--- size.
-use mathlib.Core.Path.{◌≡◌}
-use Prim.Native.Nat.{◌-◌, ◌*◌}
-use lib.ListN.{length}
+-- The loop's invariant: k sweeps are made, each changed something, and the queue has what the last
+-- of them closed. The queue's end rises, and is never past the map's size.
+use Rattle.std.proofs.Common.{◌-◌, ◌*◌}
 use Rattle.rows.specs.Sheets.{Stones}
 use Rattle.sweeping.proofs.Laws.Stages.{Stage}
 use Rattle.sweeping.proofs.run.Given as goal
 
-abbrev pub invariant-loop-hi : goal.invariant-loop-hi
-invariant-loop-hi l = (length l.s ≡ length l.initial.s) × (length l.q ≡ length l.initial.q) × Stage (Stones l.w l.h l.initial.s) l.w l.h l.k l.s l.q l.lo l.hi
+abbrev pub invariant-sweeps : goal.invariant-sweeps
+invariant-sweeps l = Stage (Stones l.map.w l.map.h l.initial.s) l.map.w l.map.h l.k l.s l.q l.lo l.hi
 
-abbrev pub decreases-loop-hi : goal.decreases-loop-hi
-decreases-loop-hi l = l.h * l.w - l.hi
+abbrev pub decreases-sweeps : goal.decreases-sweeps
+decreases-sweeps l = l.map.h * l.map.w - l.hi

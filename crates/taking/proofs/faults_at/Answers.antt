@@ -1,29 +1,21 @@
 -- `faults_at` meets its contract: with the rows beside it, or zeros at the edge, the row is judged
 -- as the sheet has it.
 use native.Mathlib.Omega.{arith}
-use Rattle.taking.proofs.Rows.{north_edge, north_row, south_edge, south_row, row_kept}
+use Rattle.taking.proofs.Rows.{North, South, north_edge, north_row, south_edge, south_row, row_kept}
 use Rattle.taking.proofs.faults_at.Goals as goal
-
-pub returns-then-y-eq0 : goal.returns-then-y-eq0
-returns-then-y-eq0 c =
-    let start = c in
-    let a = start.args in
-    row_kept a.w a.h a.s.now (south_edge a.w a.h a.s.now a.none.now start.requires.zeros a.y c.if-y-eq0.true) c.row_of-here.ensures (north_row a.w a.h a.s.now c.row_of-north.ensures) c.row_faults.ensures
-
-pub returns-then-y-h : goal.returns-then-y-h
-returns-then-y-h c =
-    let start = c in
-    let a = start.args in
-    row_kept a.w a.h a.s.now (south_row a.w a.h a.s.now c.if-y-eq0.false c.row_of-south.ensures) c.row_of-here.ensures (north_row a.w a.h a.s.now c.row_of-north.ensures) c.row_faults-then-y-h.ensures
-
-pub returns-then-y-eq0-2 : goal.returns-then-y-eq0-2
-returns-then-y-eq0-2 c =
-    let start = c in
-    let a = start.args in
-    row_kept a.w a.h a.s.now (south_edge a.w a.h a.s.now a.none.now start.requires.zeros a.y c.if-y-eq0-2.true) c.row_of-here.ensures (north_edge a.w a.h a.s.now a.none.now start.requires.zeros a.y (omega arith)) c.row_faults-then-y-eq0-2.ensures
+use Rattle.taking.proofs.faults_at.Goals.{then-y-eq0, else-y-eq0, then-y-s, else-y-s}
 
 pub returns : goal.returns
 returns c =
-    let start = c in
-    let a = start.args in
-    row_kept a.w a.h a.s.now (south_row a.w a.h a.s.now c.if-y-eq0-2.false c.row_of-south-2.ensures) c.row_of-here.ensures (north_edge a.w a.h a.s.now a.none.now start.requires.zeros a.y (omega arith)) c.row_faults-2.ensures
+    let a = c.args in
+    let south : South a.s.map.w a.s.map.h a.s.cells.now a.y c.if-y-eq0.south.now =
+    elim c.if-y-eq0.branch [
+      | then-y-eq0 w ↦ rw w.south-is (south_edge a.s.map.w a.s.map.h a.s.cells.now a.none.now c.requires.zeros a.y w.if-y-eq0.true)
+      | else-y-eq0 w ↦ rw w.south-is (south_row a.s.map.w a.s.map.h a.s.cells.now w.if-y-eq0.false w.row_of-south.ensures)
+    ] in
+    let north : North a.s.map.w a.s.map.h a.s.cells.now a.y c.if-y-s.north.now =
+    elim c.if-y-s.branch [
+      | then-y-s w ↦ rw w.north-is (north_row a.s.map.w a.s.map.h a.s.cells.now w.row_of-north.ensures)
+      | else-y-s w ↦ rw w.north-is (north_edge a.s.map.w a.s.map.h a.s.cells.now a.none.now c.requires.zeros a.y (omega arith))
+    ] in
+    row_kept a.s.map.w a.s.map.h a.s.cells.now south c.row_of.ensures north c.row_faults.ensures

@@ -3,14 +3,15 @@
 use mathlib.Core.Path.{◌≡◌, refl, sym, ap, ap₂, ◌∙◌}
 use mathlib.Core.Bool.{true}
 use mathlib.Core.List.{List}
-use Prim.Native.Nat.{ℕ, ◌+◌, ◌*◌, ◌/◌, ◌%◌, ◌^◌, ◌<◌, ◌≤◌}
+use Prim.Native.Nat.{ℕ, zero, suc, ◌+◌, ◌*◌, ◌/◌, ◌%◌, ◌^◌, ◌<◌, ◌≤◌}
 use native.Mathlib.Omega.{arith}
-use native.Mathlib.Decide.{ℕ_discrete}
 use lib.Dec.{eqb}
-use lib.Bits.{bit_and, and_mask}
-use lib.ListN.{length, get_or, set, length-set}
-use lib.Seq.{get_or-set_same, get_or-set_other}
+use lib.ListN.{length, get_or}
 use borrow.Author.Tests.{eqb-true}
+use borrow.Rule.Slice.PartMut.{put_mid}
+use Rattle.std.specs.Int.{w64, to_le_bytes}
+use Rattle.std.proofs.Common.{rules}
+use Rattle.std.proofs.lemmas.List.{places}
 use Rattle.field.proofs.Workings.Corners.{every, every_one}
 use Rattle.bits.specs.Bit.{bit_at}
 use Rattle.bits.specs.Laws.{bit_le}
@@ -94,44 +95,29 @@ eight_law {i} {r} {s} a b zo pa pb q =
     is : r ≡ packed byte small
     is = q ∙ ap₂ (λ (x y : ℕ). gathered (x + 16 * y)) first second ∙ gather_is byte small
 
--- The bytes of a word, written one by one.
-puts_start : {i v : ℕ} {s : List ℕ} → Puts i v 0 s s
-puts_start = record { size = refl; before = λ k l. refl; after = λ k l. refl; inside = λ j l. absurd (omega arith) }
+-- Eight bytes of a word, written over a part of a sheet.
+le_byte : (v j : ℕ) → j < 8 → get_or (to_le_bytes w64 v) j 0 ≡ v / 2 ^ (8 * j) % 256
+le_byte v zero l = let e : v ≡ v / 2 ^ (8 * 0) = omega arith in ap (λ (k : ℕ). k % 256) e
+le_byte v (suc zero) l = refl
+le_byte v (suc (suc zero)) l = refl
+le_byte v (suc (suc (suc zero))) l = refl
+le_byte v (suc (suc (suc (suc zero)))) l = refl
+le_byte v (suc (suc (suc (suc (suc zero))))) l = refl
+le_byte v (suc (suc (suc (suc (suc (suc zero)))))) l = refl
+le_byte v (suc (suc (suc (suc (suc (suc (suc zero))))))) l = refl
+le_byte v (suc (suc (suc (suc (suc (suc (suc (suc j)))))))) l = absurd (omega arith)
 
-puts_next : {i v n : ℕ} {s t : List ℕ} (k b : ℕ) → Puts i v n s t → k ≡ i + n → i + n < length s → b ≡ v / 2 ^ (8 * n) % 256
-    → Puts i v (n + 1) s (set t k b)
-puts_next {i} {v} {n} {s} {t} k b p e l q =
-    rw e
-    (record {
-      size = length-set t (i + n) b ∙ p.size;
-      before = λ j m. get_or-set_other t (i + n) j b 0 (λ z. omega arith) ∙ p.before j m;
-      after = λ j m. get_or-set_other t (i + n) j b 0 (λ z. omega arith) ∙ p.after j (omega arith);
-      inside = λ j m. inside j m (ℕ_discrete j n);
-    })
-  where
-    inside : (j : ℕ) → j < n + 1 → Dec (j ≡ n) → get_or (set t (i + n) b) (i + j) 0 ≡ v / 2 ^ (8 * j) % 256
-    inside j m (yes z) = rw z (get_or-set_same t (i + n) b 0 (omega (arith, p.size)) ∙ q)
-    inside j m (no z) = get_or-set_other t (i + n) (i + j) b 0 (λ f. z (omega arith)) ∙ p.inside j (omega arith)
-
--- The machine's eight stores.
--- Byte n of v, as the machine takes it.
-abbrev byte_at : ℕ → ℕ → ℕ
-byte_at v n = bit_and (v / 2 ^ (8 * n)) 255
-
-module _ (i : ℕ) (s : List ℕ) (v : ℕ) (f : v < 2 ^ 64) (l : i + 8 ≤ length s) where
-  store : {t : List ℕ} (n : ℕ) → n < 8 → Puts i v n s t → Puts i v (n + 1) s (set t (i + n) (byte_at v n))
-  store n m p = puts_next (i + n) (byte_at v n) p refl (omega arith) (and_mask (v / 2 ^ (8 * n)) 8)
-
-  abbrev stores : List ℕ
-  stores = set (set (set (set s i (bit_and v 255)) (i + 1) (byte_at v 1)) (i + 2) (byte_at v 2)) (i + 3) (byte_at v 3)
-
-  pub put_eight_law : Puts i v 8 s (set (set (set (set stores (i + 4) (byte_at v 4)) (i + 5) (byte_at v 5)) (i + 6) (byte_at v 6)) (i + 7) (v / 2 ^ 56))
-  put_eight_law =
-      let low : v % 2 ^ 8 ≡ v / 2 ^ (8 * 0) % 256 = omega arith in
-      let p0 = puts_next {i = i} {v = v} {n = 0} {s = s} i (bit_and v 255) puts_start (omega arith) (omega arith) (and_mask v 8 ∙ low) in
-      let p3 = store 3 (omega arith) (store 2 (omega arith) (store 1 (omega arith) p0)) in
-      let p6 = store 6 (omega arith) (store 5 (omega arith) (store 4 (omega arith) p3)) in
-      puts_next {i = i} {v = v} {n = 7} {s = s} (i + 7) (v / 2 ^ 56) p6 (omega arith) (omega arith) (omega arith)
+pub put_eight_law : {i v n : ℕ} {s t : List ℕ} → t ≡ to_le_bytes w64 v → n ≡ 8 → i + 8 ≤ length s → Puts i v 8 s (put_mid i n s t)
+put_eight_law {i} {v} {n} {s} {t} e q l =
+    let m : length t ≡ 8 = ap length e in
+    record {
+      size = search (rules, places);
+      before = λ k b. search (rules, places);
+      after = λ k b. search (rules, places);
+      inside = λ j b.
+          let a : get_or (put_mid i n s t) (i + j) 0 ≡ get_or t j 0 = search (rules, places) in
+          a ∙ ap (λ (x : List ℕ). get_or x j 0) e ∙ le_byte v j b;
+    }
 
 -- Two words of bits, spread out and summed: no byte is above 3, so none runs over into the next.
 module _ (a b : ℕ) (p : a < 256) (q : b < 256) where

@@ -1,6 +1,6 @@
 -- A word read from the bytes of a sheet, and the bytes written from two words: one byte more, and
 -- eight bytes more.
-use mathlib.Core.Path.{◌≡◌, refl, ap, ◌∙◌}
+use mathlib.Core.Path.{◌≡◌, ap, ◌∙◌}
 use mathlib.Core.List.{List}
 use Prim.Native.Nat.{ℕ, ◌+◌, ◌-◌, ◌*◌, ◌/◌, ◌%◌, ◌^◌, ◌<◌, ◌≤◌}
 use native.Mathlib.Omega.{arith}
@@ -54,9 +54,6 @@ reads_eight {o} {x} {v} {s} b r l q =
         omega (arith, bit_or_lem v (b * 2 ^ x % 2 ^ 64) i, bit_shl_at 64 b x i (omega arith) n, r.past i (omega arith), bit_past b 8 (i - x) q.small (omega arith))
     past i m (no n) = bit_past (bit_or v (b * 2 ^ x % 2 ^ 64)) 64 i fits (omega arith)
 
-pub written_start : {o ro sh : ℕ} {s : List ℕ} → WrittenAt o ro sh s s 0
-written_start = record { size = refl; before = λ k l. refl; after = λ k l. refl; inside = λ i l. absurd (omega arith) }
-
 pub written_next : {o ro sh x : ℕ} {s t : List ℕ} (b : ℕ) → WrittenAt o ro sh s t x → o + x < length s → b ≡ byte_of ro sh x
     → WrittenAt o ro sh s (set t (o + x) b) (x + 1)
 written_next {o} {ro} {sh} {x} {s} {t} b r l e =
@@ -90,7 +87,3 @@ written_eight {o} {ro} {sh} {x} {v} {s} {t} {u} r p q =
         let a : bit_at (bit_and (ro / 2 ^ x) 255) j ≡ bit_at ro i = part_bit ro x j (omega arith) ∙ ap (bit_at ro) g in
         let b : bit_at (bit_and (sh / 2 ^ x) 255) j ≡ bit_at sh i = part_bit sh x j (omega arith) ∙ ap (bit_at sh) g in
         ap (λ (k : ℕ). get_or u k 0) f ∙ p.inside j (omega arith) ∙ q.bytes j (omega arith) ∙ omega (arith, a, b)
-
-pub written_trans : {o ro sh x z : ℕ} {s t u : List ℕ} → x ≤ z → WrittenAt o ro sh s t x → WrittenAt o ro sh t u z → WrittenAt o ro sh s u z
-written_trans q f g =
-    record { size = g.size ∙ f.size; before = λ k l. g.before k l ∙ f.before k l; after = λ k l. g.after k l ∙ f.after k (omega arith); inside = g.inside }

@@ -4,7 +4,4 @@ use Rattle.words.proofs.Laws.Eights.{eight_law}
 use Rattle.words.proofs.eight.Goals as goal
 
 pub returns : goal.returns
-returns c =
-    let second = c in
-    let first = second in
-    eight_law _ _ first.requires.ones first.four-a.ensures second.four-b.ensures c.gather.ensures
+returns c = eight_law _ _ c.requires.ones c.four-a.ensures c.four-b.ensures c.gather.ensures

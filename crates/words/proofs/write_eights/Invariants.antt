@@ -1,11 +1,7 @@
--- `words::write_eights` meets its contract. The loop's invariant: the bytes passed are written.
-use mathlib.Core.Path.{◌≡◌}
-use Prim.Native.Nat.{◌-◌, ◌%◌, ◌≤◌}
+-- The loop's invariant: the bytes passed are written, eight at each turn.
+use Rattle.std.proofs.Common.{◌≡◌, ◌%◌, ◌≤◌}
 use Rattle.words.specs.Words.{WrittenAt}
 use Rattle.words.proofs.write_eights.Given as goal
 
 abbrev pub invariant-loop-x : goal.invariant-loop-x
-invariant-loop-x l = (l.x ≤ l.n) × (l.x % 8 ≡ 0) × WrittenAt l.i l.ro l.sh l.initial.s l.s l.x
-
-abbrev pub decreases-loop-x : goal.decreases-loop-x
-decreases-loop-x l = l.n - l.x
+invariant-loop-x l = (l.x % 8 ≡ 0) × (l.x ≤ l.x-end) × WrittenAt l.i l.ro l.sh l.initial.s l.s l.x

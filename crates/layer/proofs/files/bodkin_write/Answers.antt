@@ -15,4 +15,4 @@ slice_bounds-write_over-end c =
 pub write_over-requires : goal.write_over-requires
 write_over-requires c =
     let few : c.area-size.result ≤ 65536 = omega (arith, c.area-size.ensures.most, most_crossings_is) in
-    subst (Area c.args.w c.args.h) (sym (length-take-le _ _ few)) c.area-size.ensures
+    subst (Area c.args.lent.w c.args.lent.h) (sym (length-take-le _ _ few)) c.area-size.ensures

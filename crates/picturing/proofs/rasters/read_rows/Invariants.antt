@@ -1,13 +1,6 @@
--- `read_rows` meets its contract: after y turns the y southmost rows stand at the front of the
--- sheet.
-use Prim.Native.Nat.{◌*◌, ◌-◌, ◌≤◌}
-use Rattle.packing.specs.Packing.{pieces}
-use Rattle.packing.proofs.Filling.{Filled}
+-- The rows are those of the map, the southmost first.
 use Rattle.picturing.specs.Rasters.{row_of}
 use Rattle.picturing.proofs.rasters.read_rows.Given as goal
 
-abbrev pub invariant-loop-y : goal.invariant-loop-y
-invariant-loop-y l = (l.y ≤ l.h) × Filled (pieces l.y (row_of l.depth l.raster l.w l.h)) (l.y * l.w) l.initial.sheet l.sheet
-
-abbrev pub decreases-loop-y : goal.decreases-loop-y
-decreases-loop-y l = l.h - l.y
+abbrev pub ghost-each_row : goal.ghost-each_row
+ghost-each_row a = row_of a.put.2 a.put.3.now a.put.1 a.h

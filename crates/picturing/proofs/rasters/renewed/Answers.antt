@@ -1,9 +1,8 @@
--- `renewed` meets its contract: the old mark becomes the new one.
-use mathlib.Core.Path.{sym, ◌∙◌}
-use native.Mathlib.Omega.{arith}
-use native.Mathlib.Decide.{ℕ_discrete}
+-- `renewed` meets its contract: the old mark is the new one, and every other byte itself.
+use Rattle.std.proofs.Common.{◌∙◌, sym, arith}
+use Rattle.std.proofs.Math.Decide.{ℕ_discrete}
 use Rattle.field.specs.Map.{old_mark}
-use Rattle.field.specs.Limits.{no_distance_is, old_mark_is}
+use Rattle.field.specs.Limits.{old_mark_is, no_distance_is}
 use Rattle.mapfile.specs.HeaderWorking.{pick_yes, pick_no}
 use Rattle.picturefile.specs.Working.{renewed_of}
 use Rattle.picturing.proofs.rasters.renewed.Goals as goal
@@ -14,4 +13,4 @@ returns-then-byte-eq-OLD_MARK c = sym (pick_yes (ℕ_discrete _ old_mark) _ _ (o
 
 pub returns : goal.returns
 unfolding renewed_of
-returns c = sym (pick_no (ℕ_discrete _ old_mark) _ _ (λ e. omega (arith, old_mark_is)))
+returns c = c.from.ensures ∙ sym (pick_no (ℕ_discrete _ old_mark) _ _ (λ e. c.if-byte-eq-OLD_MARK.false (omega (arith, old_mark_is))))

@@ -6,13 +6,10 @@ use Rattle.turning.specs.Stamping.{turned_stamped, turned_draws, stones_alike}
 use Rattle.planning.proofs.lines.label_bits.Goals as goal
 
 pub label-requires : goal.label-requires
-label-requires c =
-    let p = c.requires in
-    turned_stamped c.args.bits.now p.turn.sides p.ones c.turn.ensures
+label-requires c = turned_stamped c.args.bits.now c.args.map.within c.requires.ones c.turn.ensures
 
 pub returns : goal.returns
 returns c =
-    let a = c.args in
-    let p = c.requires in
-    label_sheet_draws _ a.w a.h c.label.new.s
-    (label_sheet_same a.w a.h (stones_alike (turned_draws a.bits.now p.turn.sides p.ones c.turn.ensures)) c.label.ensures.sheet)
+    let map = c.args.map in
+    label_sheet_draws _ map.w map.h c.label.new.s
+    (label_sheet_same map.w map.h (stones_alike (turned_draws c.args.bits.now map.within c.requires.ones c.turn.ensures)) c.label.ensures.sheet)

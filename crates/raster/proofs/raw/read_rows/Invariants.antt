@@ -1,10 +1,6 @@
 -- `read_rows` meets its contract: the loop keeps AfterRows, and each turn passes one row more.
-use Prim.Native.Nat.{◌-◌}
 use Rattle.raster.proofs.ReadingRows.{AfterRows}
 use Rattle.raster.proofs.raw.read_rows.Given as goal
 
 abbrev pub invariant-loop-k : goal.invariant-loop-k
-invariant-loop-k l = AfterRows l.w l.h l.body l.initial.bits l.bits l.rocks l.k
-
-abbrev pub decreases-loop-k : goal.decreases-loop-k
-decreases-loop-k l = l.h - l.k
+invariant-loop-k l = AfterRows l.map.w l.map.h l.body l.initial.bits l.bits l.rocks l.k

@@ -1,16 +1,13 @@
 -- `looks::has_back` meets its contract: its tests are the definition's, in its order.
-use mathlib.Core.Path.{◌∙◌}
 use native.Mathlib.Omega.{arith}
-use Rattle.regions.proofs.LookLaws.{told, backed_end, backed_row, backed_column}
+use Rattle.regions.specs.Passes.{backed}
 use Rattle.regions.proofs.looks.has_back.Goals as goal
-
-pub returns-then-y-ey : goal.returns-then-y-ey
-returns-then-y-ey c = backed_end c.requires c.if-x-ex.true c.if-y-ey.true
+use Rattle.regions.proofs.looks.has_back.Goals.{then-eq, else-eq}
 
 pub returns-then-east_west : goal.returns-then-east_west
-returns-then-east_west c = backed_row c.requires (told c.east_west.ensures c.if-east_west.true)
+unfolding backed
+returns-then-east_west c = elim c.if-eq.branch [ then-eq w ↦ grind arith | else-eq w ↦ grind arith ]
 
-pub returns : goal.returns
-returns c =
-    c.north_south.ensures
-    ∙ backed_column c.requires (λ e. omega (arith, e.0, e.1)) (told c.east_west.ensures c.if-east_west.false)
+pub returns-else-east_west : goal.returns-else-east_west
+unfolding backed
+returns-else-east_west c = elim c.if-eq.branch [ then-eq w ↦ grind arith | else-eq w ↦ grind arith ]

@@ -1,11 +1,6 @@
--- `passes::sift` meets its contract. The invariant: the rows nearer the end than y are passed, and
--- no other crossing has changed. The measure is how far row fy still is.
-use Rattle.field.specs.Map.{at, gap}
-use Rattle.regions.proofs.WalkLaws.{AtRow}
+-- `passes::sift` meets its contract: its closure gives the mark that stands there.
+use Rattle.field.specs.Map.{at}
 use Rattle.regions.proofs.passes.sift.Given as goal
 
-abbrev pub invariant-loop-y : goal.invariant-loop-y
-invariant-loop-y l = AtRow l.w l.h l.ex l.ey l.fx l.fy (at l.initial.g l.w) l.initial.g l.g l.y
-
-abbrev pub decreases-loop-y : goal.decreases-loop-y
-decreases-loop-y l = gap l.y l.fy
+abbrev pub ghost-pass : goal.ghost-pass
+ghost-pass a = at a.g.now a.map.w

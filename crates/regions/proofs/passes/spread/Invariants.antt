@@ -1,12 +1,6 @@
--- `passes::spread` meets its contract. The invariant: the rows nearer the end than y are passed,
--- and no other crossing has changed. The measure is how far row fy still is.
-use Rattle.field.specs.Map.{gap}
+-- `passes::spread` meets its contract: its closure gives 1 where a crossing is open, and else 0.
 use Rattle.regions.specs.Passes.{free}
-use Rattle.regions.proofs.WalkLaws.{AtRow}
 use Rattle.regions.proofs.passes.spread.Given as goal
 
-abbrev pub invariant-loop-y : goal.invariant-loop-y
-invariant-loop-y l = AtRow l.w l.h l.ex l.ey l.fx l.fy (free l.s l.w) l.initial.g l.g l.y
-
-abbrev pub decreases-loop-y : goal.decreases-loop-y
-decreases-loop-y l = gap l.y l.fy
+abbrev pub ghost-pass : goal.ghost-pass
+ghost-pass a = free a.f.0.now.cells.now a.map.w

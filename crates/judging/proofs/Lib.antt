@@ -1,2 +1,0 @@
--- Laws that the proofs of the code cite, here and in the calls above.
-pub mod Told
