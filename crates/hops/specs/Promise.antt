@@ -2,17 +2,14 @@
 use Rattle.std.specs.Prelude.{List, ℕ}
 use Rattle.field.specs.Labels.{Stable}
 use Rattle.field.specs.Distances.{Assured}
-use Rattle.field.specs.Hops.{HopAnswer, there, one, two}
+use Rattle.field.specs.Hops.{HopAnswer}
 use Rattle.field.specs.Workings.Sheet.{Marked}
 use Rattle.field.specs.declared.Hops.{Hops}
-use Rattle.field.specs.declared.Hops.TheVariants.{There, One, Two}
+use Rattle.calls.specs.Told.{hops_named}
 
--- Document 01's answer for each case of the enum: "there", one crossing, or two, the east-west one
--- first.
+-- Document 01's answer for each case of the enum, as the calls have it.
 abbrev pub answered : Hops → HopAnswer
-answered There = there
-answered (One p) = one p.x p.y
-answered (Two p q) = two p.x p.y q.x q.y
+answered = hops_named
 
 -- What a hop asks: no open crossing of the sheet has two or more closed neighbours, and home is
 -- assured for the place.
