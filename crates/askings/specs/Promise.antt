@@ -5,6 +5,7 @@
 use Rattle.std.specs.Prelude.{◌≡◌, Bool, true, List, ◌↔◌, ℕ, ◌*◌, length, Result, Ok, Err, IfOk, Option}
 use Rattle.field.specs.declared.Hops.{Hops}
 use Rattle.field.specs.declared.Place.{Place}
+use Rattle.field.specs.declared.Size.{Size}
 use Rattle.field.specs.declared.reasons.Fault.{Fault}
 use Rattle.field.specs.declared.refusals.Refusal.{Refusal}
 use Rattle.field.specs.declared.refusals.Refusal.TheVariants.{EndClosed}
@@ -26,6 +27,12 @@ use Rattle.calls.specs.Told.{hops_named, checked, crossing_lines}
 -- The crossings that the rocks stamped on a sheet close.
 abbrev pub ClosedOn : ℕ → ℕ → List ℕ → ℕ → ℕ → Type 0
 ClosedOn w h s = Closed (Stones w h s) w h
+
+-- What an asking comes to after the first part of the call: where that told the map's size, what is
+-- done over the map; where it refused, the same refusal, and all that is lent is kept as it was.
+abbrev pub AfterFirst : {A : Type 0} → Result Size Refusal → (Size → Type 0) → Type 0 → Result A Refusal → Type 0
+AfterFirst (Ok map) done kept r = done map
+AfterFirst (Err e) done kept r = (r ≡ Err e) × kept
 
 -- What is asked: the sheet is stamped, the places are on the map, and the other sheets have the
 -- map's size.

@@ -1,12 +1,13 @@
-// What an asking comes to once the rocks are stamped on the lent label sheet. The sheet is labelled
-// first, and then the question is answered over its marks: whatever is not 0 on it is closed. The
-// hop by a morning sheet labels nothing: its sheet is looked at, and not written to. Labelling by
+// The second part of each asking. `first` is what the first part of the call told: the map's size,
+// where the rocks are stamped on the lent label sheet, or its refusal. A refusal is handed on with
+// all that is lent as it was, and then nothing is asked of the sheets and the places. Labelling by
 // itself, and sweep by sweep, is `labels::label` and `sweeping::sweeps`.
 #![tactic(auto)]
 
-ghost use Rattle.field.specs.Workings.Sheet.{Marked};
-ghost use Rattle.distances.specs.Promise.{AskedHome};
-ghost use Rattle.askings.specs.Promise.{MayAsk, MayAskTwo, MayMeasure, MayDrive, MayGoHome, EndsTold, HopAsked};
+mod over; // over.rt: what each asking comes to over a map
+
+ghost use Rattle.std.specs.Prelude.{◌≡◌, ◌*◌, length, IfOk, IsOkAnd, ⊤};
+ghost use Rattle.askings.specs.Promise.{MayAsk, MayAskTwo, MayMeasure, MayDrive, AfterFirst};
 ghost use Rattle.askings.specs.Promise.{DistancesRest, MeasureRest, AssuredRest, HopRest, RegionRest, DriveRest, CheckRest, LinesRest, LinesDriveRest};
 ghost use Rattle.askings.specs.Morning.{MayHopBy, HopByRest};
 
@@ -14,101 +15,95 @@ use field::{Fault, Hops, Place, Refusal, Size};
 use sheets::Sheet;
 
 // The four distances of p.
-pub fn distances(labels: &mut [u8], map: Size, p: Place) -> [u16; 4]
-    requires { MayAsk map.w map.h p.x p.y labels.old }
-    ensures { DistancesRest map.w map.h p.x p.y labels.old labels.new result }
+pub fn distances(
+    labels: &mut [u8],
+    first: Result<Size, Refusal>,
+    p: Place,
+) -> Result<[u16; 4], Refusal>
+    requires { IfOk first (λ map. MayAsk map.w map.h p.x p.y labels.old) }
+    ensures { AfterFirst first (λ map. IsOkAnd result (λ four. DistancesRest map.w map.h p.x p.y labels.old labels.new four)) (labels.new ≡ labels.old) result }
 {
-    labels::label(labels, map);
-    distances::distances(Sheet { cells: labels, map }, p)
+    Ok(over::distances(labels, first?, p))
 }
 
 // The distances of the whole map, one lent sheet for each way.
 pub fn measure(
     labels: &mut [u8],
-    map: Size,
+    first: Result<Size, Refusal>,
     east: &mut [u16],
     south: &mut [u16],
     west: &mut [u16],
     north: &mut [u16],
-)
-    requires { MayMeasure map.w map.h labels.old east.old south.old west.old north.old }
-    ensures { MeasureRest map.w map.h labels.old labels.new east.new south.new west.new north.new }
+) -> Result<(), Refusal>
+    requires { IfOk first (λ map. MayMeasure map.w map.h labels.old east.old south.old west.old north.old) }
+    ensures { AfterFirst first (λ map. IsOkAnd result (λ _. MeasureRest map.w map.h labels.old labels.new east.new south.new west.new north.new)) ((labels.new ≡ labels.old) × (east.new ≡ east.old) × (south.new ≡ south.old) × (west.new ≡ west.old) × (north.new ≡ north.old)) result }
 {
-    labels::label(labels, map);
-    measures::measure(Sheet { cells: labels, map }, east, south, west, north);
-}
-
-// Refusal 8 where one of two ends is closed.
-fn open_ends(s: Sheet<'_>, a: Place, b: Place) -> Result<(), Refusal>
-    requires { AskedHome s.map.w s.map.h a.x a.y b.x b.y }
-    ensures { EndsTold (Marked s.entry.cells.now s.entry.map.w s.entry.map.h) a.x a.y b.x b.y result }
-{
-    if s.at(a) != 0 || s.at(b) != 0 {
-        return Err(Refusal::EndClosed);
-    }
+    over::measure(labels, first?, east, south, west, north);
     Ok(())
 }
 
 // Whether home is assured for p. With an end closed: refusal 8.
-pub fn assured(labels: &mut [u8], map: Size, home: Place, p: Place) -> Result<bool, Refusal>
-    requires { MayAskTwo map.w map.h home.x home.y p.x p.y labels.old }
-    ensures { AssuredRest map.w map.h home.x home.y p.x p.y labels.old labels.new result }
+pub fn assured(
+    labels: &mut [u8],
+    first: Result<Size, Refusal>,
+    home: Place,
+    p: Place,
+) -> Result<bool, Refusal>
+    requires { IfOk first (λ map. MayAskTwo map.w map.h home.x home.y p.x p.y labels.old) }
+    ensures { AfterFirst first (λ map. AssuredRest map.w map.h home.x home.y p.x p.y labels.old labels.new result) (labels.new ≡ labels.old) result }
 {
-    labels::label(labels, map);
-    let s = Sheet { cells: labels, map };
-    open_ends(s, home, p)?;
-    Ok(distances::assured(s, home, p))
-}
-
-// The permitted hops from p towards home over a sheet's marks. With an end closed: refusal 8; both
-// open and home not assured: 11.
-fn hops_over(sheet: Sheet<'_>, home: Place, p: Place) -> Result<Hops, Refusal>
-    requires { MayGoHome sheet.map.w sheet.map.h (Marked sheet.cells.now sheet.map.w sheet.map.h) home.x home.y p.x p.y }
-    ensures { HopAsked sheet.entry.map.w sheet.entry.map.h (Marked sheet.entry.cells.now sheet.entry.map.w sheet.entry.map.h) home.x home.y p.x p.y result }
-{
-    open_ends(sheet, home, p)?;
-    if !distances::assured(sheet, home, p) {
-        return Err(Refusal::NotAssured);
-    }
-    Ok(hops::hop(sheet, home, p))
+    over::assured(labels, first?, home, p)
 }
 
 // The permitted hops from p towards home. With an end closed: refusal 8; both open and home not
 // assured: 11.
-pub fn hop(labels: &mut [u8], map: Size, home: Place, p: Place) -> Result<Hops, Refusal>
-    requires { MayAskTwo map.w map.h home.x home.y p.x p.y labels.old }
-    ensures { HopRest map.w map.h home.x home.y p.x p.y labels.old labels.new result }
+pub fn hop(
+    labels: &mut [u8],
+    first: Result<Size, Refusal>,
+    home: Place,
+    p: Place,
+) -> Result<Hops, Refusal>
+    requires { IfOk first (λ map. MayAskTwo map.w map.h home.x home.y p.x p.y labels.old) }
+    ensures { AfterFirst first (λ map. HopRest map.w map.h home.x home.y p.x p.y labels.old labels.new result) (labels.new ≡ labels.old) result }
 {
-    labels::label(labels, map);
-    hops_over(Sheet { cells: labels, map }, home, p)
+    over::hop(labels, first?, home, p)
 }
 
-// The permitted hops from p towards home by a morning sheet, which is only read. A sheet that has a
-// fault by itself: refusal 20; by a sheet taken, as for a hop, 8 and 11.
-pub fn hop_by(sheet: Sheet<'_>, home: Place, p: Place) -> Result<Hops, Refusal>
-    requires { MayHopBy sheet.map.w sheet.map.h home.x home.y p.x p.y }
-    ensures { HopByRest sheet.entry.map.w sheet.entry.map.h home.x home.y p.x p.y sheet.entry.cells.now result }
+// The permitted hops from p towards home by a morning sheet, which is only read. Here the first
+// part's refusal may be 20 too, where the sheet shows a rock open. A sheet that has a fault by
+// itself: refusal 20; by a sheet taken, as for a hop, 8 and 11.
+pub fn hop_by(
+    first: Result<Size, Refusal>,
+    sheet: &[u8],
+    home: Place,
+    p: Place,
+) -> Result<Hops, Refusal>
+    requires { IfOk first (λ map. (length sheet.now ≡ map.h * map.w) × MayHopBy map.w map.h home.x home.y p.x p.y) }
+    ensures { AfterFirst first (λ map. HopByRest map.w map.h home.x home.y p.x p.y sheet.now result) ⊤ result }
 {
-    if !taking::steady(sheet) {
-        return Err(Refusal::NotTaken);
-    }
-    hops_over(sheet, home, p)
+    over::hop_by(
+        Sheet {
+            cells: sheet,
+            map: first?,
+        },
+        home,
+        p,
+    )
 }
 
 // The region of shortest drives between two places, into a lent sheet. With an end closed: refusal
 // 8, and the sheet stays; with no shortest drive: 9, all 0.
 pub fn region(
     labels: &mut [u8],
-    map: Size,
+    first: Result<Size, Refusal>,
     from: Place,
     to: Place,
     region: &mut [u8],
 ) -> Result<(), Refusal>
-    requires { MayDrive map.w map.h from.x from.y to.x to.y labels.old region.old }
-    ensures { RegionRest map.w map.h from.x from.y to.x to.y labels.old region.old labels.new region.new result }
+    requires { IfOk first (λ map. MayDrive map.w map.h from.x from.y to.x to.y labels.old region.old) }
+    ensures { AfterFirst first (λ map. RegionRest map.w map.h from.x from.y to.x to.y labels.old region.old labels.new region.new result) ((labels.new ≡ labels.old) × (region.new ≡ region.old)) result }
 {
-    labels::label(labels, map);
-    regions::region(Sheet { cells: labels, map }, from, to, region)
+    over::region(labels, first?, from, to, region)
 }
 
 // The chooser's drive between two places in the lent state, at the front of a lent route; the lent
@@ -116,48 +111,46 @@ pub fn region(
 // there is a drive and the route holds it.
 pub fn drive(
     labels: &mut [u8],
-    map: Size,
+    first: Result<Size, Refusal>,
     from: Place,
     to: Place,
     region: &mut [u8],
     route: &mut [u16],
     state: &mut u32,
 ) -> Result<usize, Refusal>
-    requires { MayDrive map.w map.h from.x from.y to.x to.y labels.old region.old }
-    ensures { DriveRest map.w map.h from.x from.y to.x to.y labels.old region.old route.old state.old labels.new region.new route.new state.new result }
+    requires { IfOk first (λ map. MayDrive map.w map.h from.x from.y to.x to.y labels.old region.old) }
+    ensures { AfterFirst first (λ map. DriveRest map.w map.h from.x from.y to.x to.y labels.old region.old route.old state.old labels.new region.new route.new state.new result) ((labels.new ≡ labels.old) × (region.new ≡ region.old) × (route.new ≡ route.old) × (state.new ≡ state.old)) result }
 {
-    labels::label(labels, map);
-    drives::fill(Sheet { cells: labels, map }, from, to, region, route, state)
+    over::drive(labels, first?, from, to, region, route, state)
 }
 
 // The check of a drawn list against the shortest drives between two places. With an end closed:
 // refusal 8.
 pub fn check(
     labels: &mut [u8],
-    map: Size,
+    first: Result<Size, Refusal>,
     from: Place,
     to: Place,
     drawn: &[u16],
 ) -> Result<Result<(), Fault>, Refusal>
-    requires { MayAskTwo map.w map.h from.x from.y to.x to.y labels.old }
-    ensures { CheckRest map.w map.h from.x from.y to.x to.y labels.old drawn.now labels.new result }
+    requires { IfOk first (λ map. MayAskTwo map.w map.h from.x from.y to.x to.y labels.old) }
+    ensures { AfterFirst first (λ map. CheckRest map.w map.h from.x from.y to.x to.y labels.old drawn.now labels.new result) (labels.new ≡ labels.old) result }
 {
-    labels::label(labels, map);
-    let sheet = Sheet { cells: labels, map };
-    open_ends(sheet, from, to)?;
-    Ok(checks::check(sheet, from, to, drawn))
+    over::check(labels, first?, from, to, drawn)
 }
 
 // Whether two places have crossing lines, and where these meet: in the westmost open column and in
 // the southmost open row. With an end closed: refusal 8.
-pub fn lines(labels: &mut [u8], map: Size, a: Place, b: Place) -> Result<Option<Place>, Refusal>
-    requires { MayAskTwo map.w map.h a.x a.y b.x b.y labels.old }
-    ensures { LinesRest map.w map.h a.x a.y b.x b.y labels.old labels.new result }
+pub fn lines(
+    labels: &mut [u8],
+    first: Result<Size, Refusal>,
+    a: Place,
+    b: Place,
+) -> Result<Option<Place>, Refusal>
+    requires { IfOk first (λ map. MayAskTwo map.w map.h a.x a.y b.x b.y labels.old) }
+    ensures { AfterFirst first (λ map. LinesRest map.w map.h a.x a.y b.x b.y labels.old labels.new result) (labels.new ≡ labels.old) result }
 {
-    labels::label(labels, map);
-    let s = Sheet { cells: labels, map };
-    open_ends(s, a, b)?;
-    Ok(meetings::lines(s, a, b))
+    over::lines(labels, first?, a, b)
 }
 
 // The drive between two places by way of the crossing where these lines meet, in the lent state, at
@@ -165,18 +158,15 @@ pub fn lines(labels: &mut [u8], map: Size, a: Place, b: Place) -> Result<Option<
 // refusal 8; without lines: 19, and then only the labels are written.
 pub fn lines_drive(
     labels: &mut [u8],
-    map: Size,
+    first: Result<Size, Refusal>,
     from: Place,
     to: Place,
     region: &mut [u8],
     route: &mut [u16],
     state: &mut u32,
 ) -> Result<usize, Refusal>
-    requires { MayDrive map.w map.h from.x from.y to.x to.y labels.old region.old }
-    ensures { LinesDriveRest map.w map.h from.x from.y to.x to.y labels.old region.old route.old state.old labels.new region.new route.new state.new result }
+    requires { IfOk first (λ map. MayDrive map.w map.h from.x from.y to.x to.y labels.old region.old) }
+    ensures { AfterFirst first (λ map. LinesDriveRest map.w map.h from.x from.y to.x to.y labels.old region.old route.old state.old labels.new region.new route.new state.new result) ((labels.new ≡ labels.old) × (region.new ≡ region.old) × (route.new ≡ route.old) × (state.new ≡ state.old)) result }
 {
-    labels::label(labels, map);
-    let s = Sheet { cells: labels, map };
-    open_ends(s, from, to)?;
-    meetings::join(s, from, to, region, route, state)
+    over::lines_drive(labels, first?, from, to, region, route, state)
 }

@@ -11,10 +11,9 @@ use super::{
     Assurance, Checked, Counted, CrossingLines, Drove, Four, Homeward, Labelling, ReadMap,
     SheetRead, SheetWritten, Swept, WroteMap,
 };
+use field::reasons::NO_FAULT;
+use field::refusals::SUCCESS;
 use field::{Fault, Hops, Labelled, Place, Reading, Refusal, Size};
-
-// "(0 on success)"
-const SUCCESS: u8 = 0;
 
 // The number alone, for a call that answers nothing beside it.
 pub fn number(answer: Result<(), Refusal>) -> u8
@@ -220,7 +219,7 @@ impl From<Result<Result<(), Fault>, Refusal>> for Checked {
         match answer {
             Ok(Ok(())) => Checked {
                 refusal: SUCCESS,
-                reason: 0,
+                reason: NO_FAULT,
                 position: 0,
             },
             Ok(Err(fault)) => Checked {

@@ -46,6 +46,26 @@ module _ (g : List ℕ) (w h dx dy x y z : ℕ) where
   chose : {c : drives.Choice} {k : Choice} → chosen_of g w h dx dy x y z ≡ k → c.at.x ≡ k.x → c.at.y ≡ k.y → c.state ≡ k.state → Chose w h g dx dy x y z c
   chose e p q r = record { x_is = rw e p; y_is = rw e q; state_is = rw e r }
 
+  -- The choice, case by case: by the draw, with one candidate along the row, and with none there.
+  pub chosen_low : east_west_in g w h dx x y ≡ true → north_south_in g w h dy x y ≡ true → top (drawn z) ≡ 0
+      → chosen_of g w h dx dy x y z ≡ record { x = hop_to x dx; y = y; state = drawn z }
+  unfolding chosen_of
+  chosen_low e n t = simp (e, n, eq-eqb (top (drawn z)) 0 t)
+
+  pub chosen_high : east_west_in g w h dx x y ≡ true → north_south_in g w h dy x y ≡ true → ¬ (top (drawn z) ≡ 0)
+      → chosen_of g w h dx dy x y z ≡ record { x = x; y = hop_to y dy; state = drawn z }
+  unfolding chosen_of
+  chosen_high e n t = simp (e, n, ne_eqb (top (drawn z)) 0 t)
+
+  pub chosen_row : east_west_in g w h dx x y ≡ true → north_south_in g w h dy x y ≡ false
+      → chosen_of g w h dx dy x y z ≡ record { x = hop_to x dx; y = y; state = drawn z }
+  unfolding chosen_of
+  chosen_row e n = simp (e, n)
+
+  pub chosen_column : east_west_in g w h dx x y ≡ false → chosen_of g w h dx dy x y z ≡ record { x = x; y = hop_to y dy; state = drawn z }
+  unfolding chosen_of
+  chosen_column e = simp e
+
   module _ {e n : Bool} {u : ℕ} (p : e ≡ east_west_in g w h dx x y) (q : n ≡ north_south_in g w h dy x y) (d : u ≡ drawn z) where
     pub chose_row : row_taken e n u ≡ true → {a : ℕ} → a ≡ hop_to x dx → Chose w h g dx dy x y z (record { at = record { x = a; y = y }; state = u })
     unfolding chosen_of

@@ -3,6 +3,9 @@
 ghost use Rattle.std.specs.Prelude.{◌≡◌};
 ghost use Rattle.field.specs.Refusals.{number_of};
 
+// "(0 on success)"
+pub const SUCCESS: u8 = 0;
+
 #[derive(Clone, Copy, Debug, PartialEq, Eq)]
 pub enum Refusal {
     // width or height is 0 or over the limit

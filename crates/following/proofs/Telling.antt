@@ -58,7 +58,7 @@ module _ {src : List ℕ} (m : Lettered src) (tried : List ℕ) (j : Joined src 
   pub probe_told : (numbers : List ℕ) → length numbers ≡ 2 → (r : Maybe ℕ) → HeadRead whole_tried 2 numbers r
       → (is_some r ≡ true) ↔ HasHeader (drop 2 src ++ probe)
   probe_told numbers n (Some e) k =
-      (λ z. subst HasHeader probed (record { w = _; h = _; body = _; header = head_found n k }), λ z. refl)
+      (λ z. subst HasHeader probed (record { w = _; h = _; body = _; header = (head_found n k).1 }), λ z. refl)
   probe_told numbers n None k =
       (λ z. cc, λ z. absurd (subst (λ (l : List ℕ). ¬ HasHeader l) probed (header_none (head_missing whole_tried 2 numbers n k)) z))
 

@@ -117,7 +117,9 @@ fn read_map(src: &[u8], ended: bool, bits: &mut [u8]) -> Result<Option<Piece>, R
     let Some(at) = header::header(src, 2, &mut sides) else {
         return headless(src, ended);
     };
-    let map = sheets::sized(sides[0], sides[1]).ok_or(Refusal::BadSize)?;
+    let Some(map) = sheets::sized(sides[0], sides[1]) else {
+        return Err(Refusal::BadSize);
+    };
     read_raster(src, ended, at, map, bits)
 }
 

@@ -2,4 +2,5 @@
 pub mod HeaderParts
 pub mod Found
 pub mod Letters
+pub mod Answers
 pub mod Left

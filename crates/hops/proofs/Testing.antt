@@ -21,7 +21,7 @@ use Rattle.hops.specs.declared.Axis.TheVariants.{Row, Column}
 use Rattle.hops.specs.Leading.{along, Moved, passes, end}
 
 -- On the map the test for an open crossing is that it has no mark.
-open_unmarked : (s : List ℕ) (w h x y : ℕ) → On w h x y → open_of s w h x y ≡ eqb (at s w x y) 0
+pub open_unmarked : (s : List ℕ) (w h x y : ℕ) → On w h x y → open_of s w h x y ≡ eqb (at s w x y) 0
 unfolding open_of
 open_unmarked s w h x y o = rw (lt-ltb x w o.in_x, lt-ltb y h o.in_y) (go (dec_lt 0 (at s w x y)))
   where

@@ -38,7 +38,7 @@ module _ {m : LentMap} {sx sy dx dy : ℕ} {labels t g g' route route' : List �
   lines_drive_call (Err e) q k l = record { given = q.given; labels_after = q.labels_after; region_after = k; route_after = l }
 
 module _ {m : LentMap} {sx sy dx dy : ℕ} {others : Bool} {labels s g : List ℕ} (fit : (others ≡ true) ↔ OneFit m.width m.height (length g)) where
-  -- A refusal of the first part: what `?` hands on.
+  -- A refusal of the first part, handed on.
   module _ {e : Refusal} (p : Prepared m false sx sy dx dy others labels s (Err e)) where
     pub region_refused : (r : Result Unit Refusal) → Handed e r → RegionCall m sx sy dx dy labels g s g (told r)
     region_refused r f =

@@ -8,7 +8,6 @@ use Rattle.std.specs.Result.{IsErr, IsErrAnd}
 use Rattle.std.proofs.lemmas.Result.{err_from_is_err_and}
 use Rattle.field.specs.declared.Size.{Size}
 use Rattle.field.specs.declared.refusals.Refusal.{Refusal}
-use Rattle.field.specs.declared.refusals.Refusal.TheVariants as Refused
 use Rattle.field.specs.Map.{Sides}
 use Rattle.field.specs.Refusals.{no_slot, number_of, told}
 use Rattle.field.specs.Labels.{RockOn, LabelSheet}
@@ -22,6 +21,7 @@ use Rattle.calls.specs.Answers.{Early, LabelsAfter}
 use Rattle.askings.specs.Promise.{ClosedOn}
 use Rattle.judging.specs.Judging.{OneFit, FourFit}
 use Rattle.layer.specs.Prepared.{Prepared, asking_found}
+pub use Rattle.layer.specs.Told.{some_number}
 
 -- `others` tells of the other sheets, on a map within the limit.
 abbrev pub Tells : ℕ → ℕ → Bool → List (List ℕ) → Type 0
@@ -65,30 +65,7 @@ four_tell {w} {h} {others} s t u v e =
       λ f. e.1 (record { sides = f.0; first = f.1.0; second = f.1.1.0; third = f.1.1.1.0; fourth = f.1.1.1.1.0 }),
     )
 
--- A refusal's number is not 0.
-pub some_number : (e : Refusal) → ¬ (number_of e ≡ 0)
-some_number Refused.BadSize z = omega arith
-some_number Refused.BadSheet z = omega arith
-some_number Refused.BadList z = omega arith
-some_number Refused.BadPlace z = omega arith
-some_number Refused.IdInUse z = omega arith
-some_number Refused.IdNotInUse z = omega arith
-some_number Refused.NoSlot z = omega arith
-some_number Refused.EndClosed z = omega arith
-some_number Refused.NoDrive z = omega arith
-some_number Refused.ShortRoute z = omega arith
-some_number Refused.NotAssured z = omega arith
-some_number Refused.BadLetters z = omega arith
-some_number Refused.BadHeader z = omega arith
-some_number Refused.ShortRaster z = omega arith
-some_number Refused.LongRaster z = omega arith
-some_number Refused.SharedCrossing z = omega arith
-some_number Refused.ShortOutput z = omega arith
-some_number Refused.BadLargest z = omega arith
-some_number Refused.NoLines z = omega arith
-some_number Refused.NotTaken z = omega arith
-
--- What `?` hands on of a refusal e.
+-- A refusal e handed on, by `?` or by the second part.
 abbrev pub Handed : {A : Type 0} → Refusal → Result A Refusal → Type 0
 Handed e r = IsErr r × IsErrAnd r (λ d. d ≡ e)
 

@@ -89,7 +89,7 @@ module _ {m : LentMap} {labels t : List ℕ} where
     lines_call (Ok (Some p)) q k = record { given = q.given; labels_after = q.labels_after; refused = λ f. absurd (f refl); done = λ _. k }
     lines_call (Err e) q k = record { given = q.given; labels_after = q.labels_after; refused = λ _. refl; done = λ z. absurd (some_number e z) }
 
--- A refusal of the first part: what `?` hands on.
+-- A refusal of the first part, handed on.
 module _ {m : LentMap} {labels s : List ℕ} {e : Refusal} where
   module _ (p : Prepared m false 0 0 0 0 true labels s (Err e)) where
     pub label_refused : (r : Result Labelled Refusal) → Handed e r → LabelCall m labels s (labelling r)

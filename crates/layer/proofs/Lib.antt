@@ -4,8 +4,8 @@ mod Joining
 mod LabelAnswers
 mod DriveAnswers
 mod Mornings
+mod Handing
 mod Listing
-mod Sharing
 mod Writing
 mod Putting
 mod Reading

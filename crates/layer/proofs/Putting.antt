@@ -13,9 +13,10 @@ use Rattle.mapfile.specs.MarkerLaws.{ones, ones_append, marker_at, markers_lengt
 use Rattle.exchange.specs.Promise.{RockAhead, NextRock, MayMark}
 use Rattle.layer.specs.Files.{MayPut}
 
--- No more markers are put than the map has.
-pub put_had : {list : List Marker} {count w h : ℕ} {bits : List ℕ} → MayPut list count w h bits → count ≤ length (markers_of w h (take (h * w) bits))
-put_had may = omega (arith, may.counted)
+-- No more markers are put than the map has. Where none is to be put, that asks nothing.
+pub put_had : {list : List Marker} {count w h : ℕ} {bits : List ℕ} → (1 ≤ count → MayPut list count w h bits) → count ≤ length (markers_of w h (take (h * w) bits))
+put_had {count = zero} may = zero-le
+put_had {count = suc n} may = omega (arith, (may (omega arith)).counted)
 
 -- k rocks stand before the i-th bit.
 pub record RocksPassed (bits : List ℕ) (i k : ℕ) : Type 0 where

@@ -1,79 +1,26 @@
--- From the parts of reading to the call's promise: the markers of the map that the first part has
--- are put in the first slots.
-use Rattle.std.specs.Prelude.{◌≡◌, refl, List, [], ◌∷◌, ◌++◌, ◌⊎◌, ℕ, suc, ◌+◌, ◌*◌, ◌<◌, ◌≤◌, length, set, take, drop, Result, Ok}
-use Rattle.std.proofs.Common.{sym, ap, ◌∙◌, append_assoc, inl, inr, arith, add-one, length-append, length-drop, take-suc, drop-cons, take_all, length-take-le}
+-- The call's promise at each place where reading ends: the first part refuses, or the second has put
+-- the map's markers.
+use Rattle.std.specs.Prelude.{◌≡◌, refl, List, [], ℕ, ◌*◌, length, take, Result, Ok, Err}
 use Rattle.std.proofs.lemmas.Result.{err_from_is_err_and}
-use Rattle.std.proofs.lemmas.List.{set_at}
 use Rattle.field.specs.declared.Marker.{Marker}
 use Rattle.field.specs.declared.Reading.{Reading}
 use Rattle.field.specs.declared.refusals.Refusal.{Refusal}
 use Rattle.field.specs.Refusals.{number_of}
-use Rattle.field.specs.Map.{side, most_markers}
-use Rattle.field.specs.Labels.{blank}
-use Rattle.field.specs.Limits.{most_crossings_is, crossings_few}
-use Rattle.markers.specs.List.{slot}
-use Rattle.mapfile.specs.File.{markers_of, NoSlot}
-use Rattle.mapfile.proofs.FileLaws.{map_file_one}
+use Rattle.mapfile.specs.File.{markers_of}
 use Rattle.exchange.specs.Promise.{ReadFirst}
-use Rattle.layer.specs.Files.{MayPut, put_in}
+use Rattle.layer.specs.Files.{put_in}
+use Rattle.layer.specs.Reading.{read_call}
 use Rattle.calls.specs.Calls.{ReadCall}
 use Rattle.calls.specs.Answers.{ReadFault}
 use Rattle.calls.specs.Told.{read_map}
-use Rattle.layer.proofs.Joining.{Handed, some_number}
+use Rattle.layer.proofs.Joining.{Handed}
 
--- Putting changes no length, and one marker more is put by one store.
-pub put_length : (list markers : List Marker) (k : ℕ) → k ≤ length list → k ≤ length markers → length (put_in list k markers) ≡ length list
-put_length list markers k l m = omega (arith, length-append (take k markers) (drop k list), length-take-le k markers m, length-drop k list)
-
-pub put_more : (list markers : List Marker) (k : ℕ) → k < length list → k < length markers → set (put_in list k markers) k (slot markers k) ≡ put_in list (k + 1) markers
-put_more list markers k l m =
-    ap (λ (t : List Marker). set (front ++ t) k (slot markers k)) (drop-cons list k blank l)
-    ∙ set_at front (slot list k) (drop (suc k) list) (slot markers k) k (length-take-le k markers (omega arith))
-    ∙ sym (append_assoc front (slot markers k ∷ []) (drop (suc k) list))
-    ∙ ap (λ (t : List Marker). t ++ drop (suc k) list) (sym (take-suc markers k blank m))
-    ∙ ap (λ (n : ℕ). put_in list n markers) (sym (add-one k))
-  where
-    front : List Marker
-    front = take k markers
-
--- Where the first part has a map, the second part may put its markers.
-pub may_put : {file : List ℕ} {list : List Marker} {out : List ℕ} (r : Reading) → side * side ≤ length out → ReadFirst file (length list) out (Ok r)
-    → MayPut list r.rocks r.map.w r.map.h out
-may_put r l q =
-    record { lent = q.within; all = omega (arith, crossings_few q.map.sides, most_crossings_is); counted = q.counted; few = q.few }
-
--- The call's promise, by what the first part answers: a refusal, or a map whose markers are put.
 pub read_refused : {file : List ℕ} {list : List Marker} (e : Refusal) (r : Result Reading Refusal) → ReadFault file (length list) (number_of e) → Handed e r
     → ReadCall file list list (read_map r)
 read_refused e r k f =
     let q = err_from_is_err_and r f.1 in
-    rw (q.1, q.2) (record { given = λ _. k; kept = λ _. refl; refused = λ _. refl; done = λ z. absurd (some_number e z) })
+    rw (q.1, q.2) (read_call [] (Err e) k refl)
 
 pub read_taken : {file : List ℕ} {list list' : List Marker} {out : List ℕ} (r : Reading) → ReadFirst file (length list) out (Ok r)
     → list' ≡ put_in list r.rocks (markers_of r.map.w r.map.h (take (r.map.h * r.map.w) out)) → ReadCall file list list' (read_map (Ok r))
-read_taken {file} {list} {list'} {out} r q s =
-    record {
-      given = λ f. absurd (f refl);
-      kept = λ f. absurd (f refl);
-      refused = λ f. absurd (f refl);
-      done = λ _. record {
-        bits = take (r.map.h * r.map.w) out;
-        map = q.map;
-        counted = q.counted;
-        room = room;
-        slots = s ∙ ap (λ (t : List Marker). t ++ drop r.rocks list) (take_all r.rocks markers (omega (arith, q.counted)));
-      };
-    }
-  where
-    markers : List Marker
-    markers = markers_of r.map.w r.map.h (take (r.map.h * r.map.w) out)
-
-    room : ¬ NoSlot file (length list)
-    room t = go t.many
-      where
-        same : length (markers_of t.w t.h t.bits) ≡ r.rocks
-        same = let o = map_file_one t.map q.map in rw (o.0, o.1, o.2) (sym q.counted)
-
-        go : (length list < length (markers_of t.w t.h t.bits)) ⊎ (most_markers < length (markers_of t.w t.h t.bits)) → ⊥
-        go (inl l) = omega (arith, same, q.within)
-        go (inr l) = omega (arith, same, q.few)
+read_taken {out = out} r q s = read_call out (Ok r) q s

@@ -7,8 +7,8 @@ use Rattle.field.specs.declared.refusals.Refusal.{Refusal}
 use Rattle.field.specs.declared.refusals.Refusal.TheVariants.{BadSize, BadList}
 use Rattle.field.specs.Refusals.{bad_sheet, told}
 use Rattle.sheets.specs.Promise.{Of}
-use Rattle.markers.specs.List as Markers
-use Rattle.records.specs.Promise.{StampedWith}
+use Rattle.records.specs.Promise.{StampedWith, SpotOf}
+use Rattle.records.specs.declared.Spot.{Spot}
 use Rattle.calls.specs.Rules
 use Rattle.calls.specs.Rules.{LentMap, Sized, Formed, Rule, Gives, rule, lent_map}
 use Rattle.layer.specs.declared.LentMap.{LentMap as Lent}
@@ -37,8 +37,8 @@ pub record Prepared (m : LentMap) (low : Bool) (x y a b : ℕ) (others : Bool) (
   pub given : Gives (asking_found m x y a b others labels) (told r)
   pub left : MatchResult r (λ map. Ready m low map labels') (λ e. labels' ≡ labels)
 
--- What is found of the map, the list and an id: whether the id is in use, where the size is good and
--- the list is well formed.
-abbrev pub Seeks : LentMap → ℕ → Result Bool Refusal → Type 0
-Seeks m id (Ok used) = Sized m × Formed m × ((used ≡ true) ↔ Markers.InUse m.list m.count id)
+-- What is found of the map, the list and an id: the id's place, and whether it is in use, where the
+-- size is good and the list is well formed.
+abbrev pub Seeks : LentMap → ℕ → Result Spot Refusal → Type 0
+Seeks m id (Ok spot) = Sized m × Formed m × SpotOf m.list m.count id spot
 Seeks m id (Err e) = ((¬ Sized m) × (e ≡ BadSize)) ⊎ (Sized m × (¬ Formed m) × (e ≡ BadList))

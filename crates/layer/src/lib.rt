@@ -20,6 +20,7 @@ ghost use Rattle.layer.specs.Prepared.{lent_of, Seeks};
 
 use field::{Fault, Hops, Labelled, Marker, Place, Refusal};
 use preparing::{ORIGIN, prepare};
+use records::Spot;
 
 // What is lent with every asking: "a list of marker records with a count of those in use", the
 // map's width and height, and the ground clearance of the cart that asks, in centimetres as the
@@ -48,9 +49,10 @@ impl<'a> LentMap<'a> {
     }
 }
 
-// What is found of the map, the list and an id: whether it is in use. The id is looked for only
-// where the list is well formed. Entering and clearing change the list, so it is no LentMap here.
-fn seek(list: &[Marker], count: usize, w: usize, h: usize, id: u16) -> Result<bool, Refusal>
+// What is found of the map, the list and an id: its place, and whether it is in use. The id is
+// looked for only where the list is well formed. Entering and clearing change the list, so it is no
+// LentMap here.
+fn seek(list: &[Marker], count: usize, w: usize, h: usize, id: u16) -> Result<Spot, Refusal>
     ensures { Seeks (lent_list list.now count w h) id result }
 {
     if sheets::sized(w, h).is_none() {
@@ -59,7 +61,7 @@ fn seek(list: &[Marker], count: usize, w: usize, h: usize, id: u16) -> Result<bo
     if !records::well_formed(list, count, w, h) {
         return Err(Refusal::BadList);
     }
-    Ok(records::in_use(list, count, id))
+    Ok(records::find(list, count, id))
 }
 
 // Enters a marker, of any height. Hands back the new count, or the refusal: 1, 3, 4, 5 or 7.
@@ -74,10 +76,10 @@ pub fn bodkin_enter(
 ) -> Result<usize, Refusal>
     ensures { EnterCall (lent_list list.old count w h) id p.x p.y height list.new (counted result) }
 {
-    let used = seek(list, count, w, h, id)?;
-    judging::may_enter(used, w, h, id, p, count, list.len())?;
+    let spot = seek(list, count, w, h, id)?;
+    judging::may_enter(spot.used, w, h, id, p, count, list.len())?;
     let m = judging::marker(id, p, height);
-    Ok(records::enter(list, count, m))
+    Ok(records::enter_at(list, count, spot.place, m))
 }
 
 // Clears the marker with this id. Hands back the new count, or the refusal: 1, 3 or 6.
@@ -90,9 +92,10 @@ pub fn bodkin_clear(
 ) -> Result<usize, Refusal>
     ensures { ClearCall (lent_list list.old count w h) id list.new (counted result) }
 {
-    let used = seek(list, count, w, h, id)?;
-    judging::may_clear(used)?;
-    Ok(records::clear(list, count, id))
+    let spot = seek(list, count, w, h, id)?;
+    judging::may_clear(spot.used)?;
+    records::clear_at(list, count, spot.place);
+    Ok(count - 1)
 }
 
 // Labels the map. Hands back the numbers of rocks' crossings, shut crossings and groups, or the
@@ -117,8 +120,8 @@ pub fn bodkin_sweeps(lent: LentMap<'_>, labels: &mut [u8]) -> Result<usize, Refu
 pub fn bodkin_distances(lent: LentMap<'_>, p: Place, labels: &mut [u8]) -> Result<[u16; 4], Refusal>
     ensures { DistancesCall (lent_of lent.entry) p.x p.y labels.old labels.new (four result) }
 {
-    let map = prepare(lent, false, p, p, true, labels)?;
-    Ok(askings::distances(labels, map, p))
+    let first = prepare(lent, false, p, p, true, labels);
+    askings::distances(labels, first, p)
 }
 
 // The distances of the whole map, into one lent sheet for each way; or the refusal, 1, 2 or 3.
@@ -140,9 +143,8 @@ pub fn bodkin_measure(
         west.len(),
         north.len(),
     );
-    let map = prepare(lent, false, ORIGIN, ORIGIN, others, labels)?;
-    askings::measure(labels, map, east, south, west, north);
-    Ok(())
+    let first = prepare(lent, false, ORIGIN, ORIGIN, others, labels);
+    askings::measure(labels, first, east, south, west, north)
 }
 
 // Whether home is assured for p, or the refusal: 1, 2, 3, 4 or 8.
@@ -154,8 +156,8 @@ pub fn bodkin_assured(
 ) -> Result<bool, Refusal>
     ensures { AssuredCall (lent_of lent.entry) home.x home.y p.x p.y labels.old labels.new (assurance result) }
 {
-    let map = prepare(lent, false, home, p, true, labels)?;
-    askings::assured(labels, map, home, p)
+    let first = prepare(lent, false, home, p, true, labels);
+    askings::assured(labels, first, home, p)
 }
 
 // Every permitted hop from p towards home, none at home, or the refusal: 1, 2, 3, 4, 8 or 11.
@@ -167,8 +169,8 @@ pub fn bodkin_hop(
 ) -> Result<Hops, Refusal>
     ensures { HopCall (lent_of lent.entry) home.x home.y p.x p.y labels.old labels.new (homeward_of result) }
 {
-    let map = prepare(lent, false, home, p, true, labels)?;
-    askings::hop(labels, map, home, p)
+    let first = prepare(lent, false, home, p, true, labels);
+    askings::hop(labels, first, home, p)
 }
 
 // The crossings on at least one shortest drive between two places; or the refusal, 1, 2, 3, 4, 8 or
@@ -183,8 +185,8 @@ pub fn bodkin_region(
     ensures { RegionCall (lent_of lent.entry) from.x from.y to.x to.y labels.old region.old labels.new region.new (told result) }
 {
     let others = judging::fits(lent.w, lent.h, region.len());
-    let map = prepare(lent, false, from, to, others, labels)?;
-    askings::region(labels, map, from, to, region)
+    let first = prepare(lent, false, from, to, others, labels);
+    askings::region(labels, first, from, to, region)
 }
 
 // A shortest drive between two places, drawn from the lent state, at the front of the lent route.
@@ -201,8 +203,8 @@ pub fn bodkin_drive(
     ensures { DriveCall (lent_of lent.entry) from.x from.y to.x to.y labels.old region.old route.old state.old labels.new region.new route.new state.new (drove result) }
 {
     let others = judging::fits(lent.w, lent.h, region.len());
-    let map = prepare(lent, false, from, to, others, labels)?;
-    askings::drive(labels, map, from, to, region, route, state)
+    let first = prepare(lent, false, from, to, others, labels);
+    askings::drive(labels, first, from, to, region, route, state)
 }
 
 // Checks a drawn list of crossing numbers against the shortest drives between two places. Hands
@@ -217,8 +219,8 @@ pub fn bodkin_check(
 ) -> Result<Result<(), Fault>, Refusal>
     ensures { CheckCall (lent_of lent.entry) from.x from.y to.x to.y labels.old drawn.now labels.new (checked result) }
 {
-    let map = prepare(lent, false, from, to, true, labels)?;
-    askings::check(labels, map, from, to, drawn)
+    let first = prepare(lent, false, from, to, true, labels);
+    askings::check(labels, first, from, to, drawn)
 }
 
 // Whether some column and some row between two places are open throughout the rectangle that they
@@ -232,8 +234,8 @@ pub fn bodkin_lines(
 ) -> Result<Option<Place>, Refusal>
     ensures { LinesCall (lent_of lent.entry) from.x from.y to.x to.y labels.old labels.new (crossing_lines result) }
 {
-    let map = prepare(lent, false, from, to, true, labels)?;
-    askings::lines(labels, map, from, to)
+    let first = prepare(lent, false, from, to, true, labels);
+    askings::lines(labels, first, from, to)
 }
 
 // The drive between two places by way of the crossing where that column and that row meet, drawn
@@ -251,6 +253,6 @@ pub fn bodkin_lines_drive(
     ensures { LinesDriveCall (lent_of lent.entry) from.x from.y to.x to.y labels.old region.old route.old state.old labels.new region.new route.new state.new (drove result) }
 {
     let others = judging::fits(lent.w, lent.h, region.len());
-    let map = prepare(lent, false, from, to, others, labels)?;
-    askings::lines_drive(labels, map, from, to, region, route, state)
+    let first = prepare(lent, false, from, to, others, labels);
+    askings::lines_drive(labels, first, from, to, region, route, state)
 }

@@ -39,6 +39,6 @@ pub fn bodkin_hop_by(
 ) -> Result<Hops, Refusal>
     ensures { HopByCall (lent_of lent.entry) home.x home.y p.x p.y sheet.now (homeward_of result) }
 {
-    let map = look_at(lent, home, p, sheet)?;
-    askings::hop_by(Sheet { cells: sheet, map }, home, p)
+    let first = look_at(lent, home, p, sheet);
+    askings::hop_by(first, sheet, home, p)
 }

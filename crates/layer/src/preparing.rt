@@ -11,7 +11,8 @@ pub const ORIGIN: Place = Place { x: 0, y: 0 };
 // The first part of every asking: the lowest of refusals 1 to 4; and where there is none, the map's
 // size, and the rocks of a cart of this clearance stamped on the label sheet; with `low`, every
 // marker, low ones included. `others` tells whether every other lent sheet is of the map's size; a
-// and b are the places asked.
+// and b are the places asked. It stands in place of each call, so that a refusal costs none.
+#[inline(always)]
 pub fn prepare(
     lent: LentMap<'_>,
     low: bool,

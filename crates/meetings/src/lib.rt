@@ -29,13 +29,17 @@ pub fn lines(s: Sheet<'_>, from: Place, to: Place) -> Option<Place>
         step: s.map.w,
         many: y.many,
     };
-    let column = first_open(s.cells, west, 1, x.many)?;
+    let Some(column) = first_open(s.cells, west, 1, x.many) else {
+        return None; // no column is open
+    };
     let south = Line {
         first,
         step: 1,
         many: x.many,
     };
-    let row = first_open(s.cells, south, s.map.w, y.many)?;
+    let Some(row) = first_open(s.cells, south, s.map.w, y.many) else {
+        return None; // no row is open
+    };
     Some(Place {
         x: x.low + column,
         y: y.low + row,

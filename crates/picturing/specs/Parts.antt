@@ -1,11 +1,16 @@
 -- What the parts of writing and reading a picture promise.
-use Rattle.std.specs.Prelude.{◌≡◌, List, ◌++◌, ℕ, ◌*◌, ◌<◌, ◌≤◌, length, drop, Result, Ok, Err}
-use Rattle.field.specs.Refusals.{number_of}
+use Rattle.std.specs.Prelude.{◌≡◌, List, [], ◌∷◌, ◌++◌, ℕ, ◌*◌, ◌<◌, ◌≤◌, length, drop, Result, Ok, Err}
+use Rattle.std.proofs.Math.Decide.{ℕ_discrete}
+use Rattle.field.specs.Map.{Sides, old_largest}
+use Rattle.field.specs.Refusals.{bad_size, bad_sheet, short_raster, long_raster, bad_largest, number_of}
 use Rattle.field.specs.declared.Size.{Size}
 use Rattle.field.specs.declared.refusals.Refusal.{Refusal}
 use Rattle.field.specs.declared.refusals.Refusal.TheVariants.{ShortOutput}
 use Rattle.sheets.specs.Promise.{Of}
+use Rattle.calls.specs.Rule.{Rule, rule}
+use Rattle.mapfile.specs.HeaderWorking.{pick}
 use Rattle.picturefile.specs.declared.Depth.{Depth}
+use Rattle.picturefile.specs.declared.Depth.TheVariants.{OneByte, TwoBytes}
 use Rattle.picturefile.specs.Depths.{largest_of, bytes_of}
 use Rattle.picturefile.specs.Picture.{Begins, PictureFault}
 use Rattle.picturefile.specs.Written.{PictureWritten}
@@ -29,3 +34,23 @@ abbrev pub Judged : ℕ → ℕ → ℕ → ℕ → ℕ → Result (Size × Dept
 Judged w h largest lent left (Ok (map, depth)) = Sound w h largest lent left map depth
 Judged w h largest lent left (Err r) =
     (file body : List ℕ) → Begins file w h largest body → length body ≡ left → PictureFault file lent (number_of r)
+
+-- A largest value is that of a kind of picture.
+pub record Known (largest : ℕ) : Type 0 where
+  pub depth : Depth
+  pub is : largest ≡ largest_of depth
+
+-- The kind, of a largest value that is known.
+unfoldable pub depth_of : ℕ → Depth
+depth_of largest = pick (ℕ_discrete largest old_largest) OneByte TwoBytes
+
+-- The rows of reading that numbers alone tell, in the order of the request: of any numbers, also of
+-- those that no header has.
+abbrev pub picture_judged : ℕ → ℕ → ℕ → ℕ → ℕ → List Rule
+picture_judged w h largest lent left =
+    rule bad_size (¬ Sides w h)
+    ∷ rule bad_largest (¬ Known largest)
+    ∷ rule bad_sheet (¬ (lent ≡ h * w))
+    ∷ rule short_raster (left < h * w * bytes_of (depth_of largest))
+    ∷ rule long_raster (h * w * bytes_of (depth_of largest) < left)
+    ∷ []

@@ -7,10 +7,12 @@ mod rasters; // rasters.rt: the rows of a picture, from and onto a sheet
 
 ghost use Rattle.std.specs.Prelude.{◌≡◌, [], ◌∷◌, ◌++◌, ◌*◌, length};
 ghost use Rattle.field.specs.Map.{largest_value};
+ghost use Rattle.field.specs.Refusals.{told};
+ghost use Rattle.calls.specs.Rule.{Gives};
 ghost use Rattle.calls.specs.PictureCalls.{WriteSheetCall, ReadSheetCall};
 ghost use Rattle.calls.specs.Told.{sheet_written, sheet_read};
 ghost use Rattle.writer.specs.Digits.{digits_of};
-ghost use Rattle.picturing.specs.Parts.{Puts, Judged};
+ghost use Rattle.picturing.specs.Parts.{Puts, Judged, picture_judged};
 
 use field::{LARGEST, Refusal, Size};
 use picturefile::Depth;
@@ -69,7 +71,8 @@ fn judge(
     lent: usize,
     left: usize,
 ) -> Result<(Size, Depth), Refusal>
-    ensures { Judged w h largest lent left result }
+    ensures judged { Judged w h largest lent left result }
+    ensures given { Gives (picture_judged w h largest lent left) (told result) }
 {
     let Some(map) = sheets::sized(w, h) else {
         return Err(Refusal::BadSize);

@@ -40,7 +40,7 @@ way_up {x} {w} l = (between {a = 0} {b = w - 1 - 0} {p = x} (omega arith) (omega
 way_down : {x w : ℕ} → x < w → OnWay (w - 1) (w - 1 - (w - 1)) x
 way_down {x} {w} l = (between {a = w - 1 - (w - 1)} {b = w - 1} {p = x} (omega arith) (omega arith)).1
 
-corner_spans : (depot : Depot) {w h x y : ℕ} → On w h x y → Spanned (depot_x depot w) (depot_y depot h) (w - 1 - depot_x depot w) (h - 1 - depot_y depot h) x y
+pub corner_spans : (depot : Depot) {w h x y : ℕ} → On w h x y → Spanned (depot_x depot w) (depot_y depot h) (w - 1 - depot_x depot w) (h - 1 - depot_y depot h) x y
 corner_spans SouthWest o = record { across = way_up o.in_x; along = way_up o.in_y }
 corner_spans SouthEast o = record { across = way_down o.in_x; along = way_up o.in_y }
 corner_spans NorthWest o = record { across = way_up o.in_x; along = way_down o.in_y }
@@ -86,7 +86,7 @@ module _ (w h : ℕ) (s : List ℕ) where
 
 -- The depot is at (dx, dy), and v stands there on the sheet of the closed crossings.
 module _ (depot : Depot) {w h dx dy : ℕ} (sides : Sides w h) (ex : dx ≡ depot_x depot w) (ey : dy ≡ depot_y depot h) where
-  depot_on : On w h dx dy
+  pub depot_on : On w h dx dy
   depot_on = rw (ex, ey) (corner_on depot sides)
 
   module _ (s : List ℕ) {v : ℕ} (e : v ≡ at s w dx dy) where

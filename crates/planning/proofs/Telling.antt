@@ -32,7 +32,7 @@ corners = SouthWest ∷ SouthEast ∷ NorthWest ∷ NorthEast ∷ []
 
 -- Four of them are the lines of the map.
 module _ {w h : ℕ} {C : ℕ → ℕ → Type 0} {sums : Placing} {out a b c after : List ℕ} {i j k r : Told} where
-  lines_put : DepotTold w h C SouthWest (record { end = 0; sums = sums }) out a i → DepotTold w h C SouthEast i a b j → DepotTold w h C NorthWest j b c k
+  pub lines_put : DepotTold w h C SouthWest (record { end = 0; sums = sums }) out a i → DepotTold w h C SouthEast i a b j → DepotTold w h C NorthWest j b c k
       → DepotTold w h C NorthEast k c after r → AllTold w h C sums out after r
   lines_put p q s t =
       record {

@@ -48,7 +48,9 @@ fn numbers(s: Sheet<'_>, depot: Depot) -> Placing
     placing::place(s, depot, &mut work[..s.cells.len()])
 }
 
-// Writes the line of a corner as depot, and adds its numbers to the sums.
+// Writes the line of a corner as depot, and adds its numbers to the sums. In a frame of its own: so
+// its working sheet and the bits of a map that is read are never on the stack at once.
+#[inline(never)]
 fn put_depot(out: &mut [u8], told: Told, s: Sheet<'_>, depot: Depot) -> Told
     requires room { told.end + line_room ≤ length out.old }
     requires addable { Addable 1 told.sums }

@@ -18,11 +18,11 @@ number_ends {v} {mark} p =
     omega (arith, p.put.size, ap length n.is ∙ length-append n.digits (mark ∷ []), n.few)
 
 -- The last number of a line, with LF after it.
-line_last : {v : ℕ} {l : List ℕ} → NumberThen v 10 l → Line (v ∷ []) l
+pub line_last : {v : ℕ} {l : List ℕ} → NumberThen v 10 l → Line (v ∷ []) l
 line_last {v} n = last_number v n.digits n.printed refl n.is
 
 -- A number and a space before a line.
-line_next : {v : ℕ} {us l k : List ℕ} → NumberThen v 32 l → Line us k → Line (v ∷ us) (l ++ k)
+pub line_next : {v : ℕ} {us l k : List ℕ} → NumberThen v 32 l → Line us k → Line (v ∷ us) (l ++ k)
 line_next {v} {us} {l} {k} n m =
     next_number_lem v n.digits k n.printed m refl (ap (λ (a : List ℕ). a ++ k) n.is ∙ append_assoc n.digits (32 ∷ []) k)
 

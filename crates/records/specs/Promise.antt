@@ -1,11 +1,12 @@
 -- Promises over a lent list of marker records with its count, in the words of the list's meanings.
-use Rattle.std.specs.Prelude.{◌≡◌, Bool, true, false, List, ℕ, ◌*◌, ◌<◌, ◌≤◌, length, get_or}
+use Rattle.std.specs.Prelude.{◌≡◌, Bool, true, false, ◌↔◌, List, ℕ, ◌*◌, ◌<◌, ◌≤◌, length, get_or}
 use Rattle.field.specs.declared.Marker.{Marker}
 use Rattle.field.specs.Labels.{Rock, RockOn}
 use Rattle.field.specs.Workings.Sheet.{Draws}
 use Rattle.markers.specs.List.{slot, WellFormed, InUse, in_use_of}
 use Rattle.markers.specs.Laws.Rocks.{Stands, Any}
 use Rattle.markers.specs.Promise.{Rising}
+use Rattle.records.specs.declared.Spot.{Spot}
 pub use Rattle.markers.specs.Promise.{Enters, Clears}
 
 -- Where the id stands or belongs: every marker before has a lower id, none from there on has.
@@ -13,6 +14,11 @@ pub record Belongs (list : List Marker) (count id r : ℕ) : Type 0 where
   pub within : r ≤ count
   pub lower : (k : ℕ) → k < r → (slot list k).id < id
   pub higher : (k : ℕ) → r ≤ k → k < count → id ≤ (slot list k).id
+
+-- What is found of an id: its place, and whether it is in use.
+pub record SpotOf (list : List Marker) (count id : ℕ) (s : Spot) : Type 0 where
+  pub at : Belongs list count id s.place
+  pub used : (s.used ≡ true) ↔ InUse list count id
 
 -- What entering asks: rising ids, a place by id that no marker with this id has, and a slot.
 pub record MayEnter (list : List Marker) (count : ℕ) (m : Marker) : Type 0 where

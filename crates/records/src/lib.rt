@@ -8,7 +8,7 @@ ghost use Rattle.field.specs.Labels.{Rock};
 ghost use Rattle.field.specs.Morning.{RocksShown};
 ghost use Rattle.markers.specs.List.{WellFormed, InUse, Cleared, slot, in_use_of};
 ghost use Rattle.markers.specs.Promise.{Rising};
-ghost use Rattle.records.specs.Promise.{Belongs, MayEnter, Enters, MayClear, Clears, MayStamp, StampedWith};
+ghost use Rattle.records.specs.Promise.{Belongs, SpotOf, MayEnter, Enters, MayClear, Clears, MayStamp, StampedWith};
 ghost use Rattle.records.specs.Steps.{Few, Follows, Counts, Marks, Passes};
 
 use field::{MOST_MARKERS, Marker, Place, Size};
@@ -69,13 +69,43 @@ pub fn place_of(list: &[Marker], count: usize, id: u16) -> usize
     list[..count].partition_point(|m| m.id < id)
 }
 
-// Whether an id is in use: the marker that stands in its place has it.
+// What is found of an id: where it stands or belongs, and whether it is in use.
+#[derive(Clone, Copy, Debug, PartialEq, Eq)]
+pub struct Spot {
+    pub place: usize,
+    pub used: bool,
+}
+
+// Looks for an id: it is in use where the marker that stands in its place has it.
+pub fn find(list: &[Marker], count: usize, id: u16) -> Spot
+    requires { Rising list.now count }
+    ensures { SpotOf list.now count id result }
+{
+    let place = place_of(list, count, id);
+    let used = place < count && list[place].id == id;
+    Spot { place, used }
+}
+
+// Whether an id is in use.
 pub fn in_use(list: &[Marker], count: usize, id: u16) -> bool
     requires { Rising list.now count }
     ensures { (result ≡ true) ↔ InUse list.now count id }
 {
-    let place = place_of(list, count, id);
-    place < count && list[place].id == id
+    find(list, count, id).used
+}
+
+// Enters a marker at this place, which is its place by id: so it need not be looked for again. Hands
+// back the new count.
+pub fn enter_at(list: &mut [Marker], count: usize, place: usize, marker: Marker) -> usize
+    requires may { MayEnter list.old count marker }
+    requires belongs { Belongs list.old count marker.id place }
+    ensures { Enters list.old count marker list.new result }
+{
+    for k in (place..count).rev() {
+        list[k + 1] = list[k];
+    }
+    list[place] = marker;
+    count + 1
 }
 
 // Enters a marker at its place by id. Hands back the new count.
@@ -84,16 +114,12 @@ pub fn enter(list: &mut [Marker], count: usize, m: Marker) -> usize
     ensures { Enters list.old count m list.new result }
 {
     let place = place_of(list, count, m.id);
-    for k in (place..count).rev() {
-        list[k + 1] = list[k];
-    }
-    list[place] = m;
-    count + 1
+    enter_at(list, count, place, m)
 }
 
 // Clears the marker at this place: those behind it move down by one, and the slot so freed is set to
 // zeros.
-fn clear_at(list: &mut [Marker], count: usize, place: usize)
+pub fn clear_at(list: &mut [Marker], count: usize, place: usize)
     requires below { place < count }
     requires lent { count ≤ length list.old }
     ensures { Cleared list.old count (slot list.old place).id list.new }

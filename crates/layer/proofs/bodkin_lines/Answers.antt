@@ -1,13 +1,9 @@
--- `bodkin_lines` keeps its promise: the rocks are stamped first, and what is told of the stamped sheet holds of
--- the list.
-use Rattle.layer.proofs.LabelAnswers.{ends_may, lines_refused, lines_joined}
+-- `bodkin_lines` keeps its promise, whether the first part told the map's size or a refusal.
+use Rattle.layer.proofs.Handing.{ends_asked, lines_answered}
 use Rattle.layer.proofs.bodkin_lines.Goals as goal
 
-pub returns-in_err-map : goal.returns-in_err-map
-returns-in_err-map c = lines_refused c.in_err-map.ensures c.from_residual.result c.from_residual.ensures
-
 pub lines-requires : goal.lines-requires
-lines-requires c = ends_may c.in_ok-map.ensures
+lines-requires c = ends_asked c.prepare-first.result c.prepare-first.ensures
 
 pub returns : goal.returns
-returns c = lines_joined c.in_ok-map.ensures c.lines.result c.lines.ensures
+returns c = lines_answered c.prepare-first.result c.lines.result c.prepare-first.ensures c.lines.ensures

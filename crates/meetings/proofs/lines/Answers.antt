@@ -5,16 +5,14 @@ use Rattle.meetings.proofs.lines.Goals as goal
 pub first_open-requires : goal.first_open-requires
 first_open-requires c = columns_laid c.requires c.between-x.ensures c.between-y.ensures c.number_of-first.ensures.is _ c.args.s.fits
 
-pub returns-in_err-column : goal.returns-in_err-column
-returns-in_err-column c =
-    rw c.from_residual.ensures (column_none c.requires c.between-x.ensures c.between-y.ensures c.number_of-first.ensures.is _ c.args.s.fits c.in_err-column.ensures)
+pub returns-in_default : goal.returns-in_default
+returns-in_default c = column_none c.requires c.between-x.ensures c.between-y.ensures c.number_of-first.ensures.is _ c.args.s.fits c.in_default.ensures
 
 pub first_open-requires-2 : goal.first_open-requires-2
 first_open-requires-2 c = rows_laid c.requires c.between-x.ensures c.between-y.ensures c.number_of-first.ensures.is _ c.args.s.fits
 
-pub returns-in_err-row : goal.returns-in_err-row
-returns-in_err-row c =
-    rw c.from_residual-in_err-row.ensures (row_none c.requires c.between-x.ensures c.between-y.ensures c.number_of-first.ensures.is _ c.args.s.fits c.in_err-row.ensures)
+pub returns-in_default-first_open : goal.returns-in_default-first_open
+returns-in_default-first_open c = row_none c.requires c.between-x.ensures c.between-y.ensures c.number_of-first.ensures.is _ c.args.s.fits c.in_default-first_open.ensures
 
 pub returns : goal.returns
-returns c = lines_met c.requires c.between-x.ensures c.between-y.ensures c.number_of-first.ensures.is _ c.args.s.fits c.in_ok-column.ensures c.in_ok-row.ensures
+returns c = lines_met c.requires c.between-x.ensures c.between-y.ensures c.number_of-first.ensures.is _ c.args.s.fits c.in-Some.ensures c.in-Some-first_open.ensures

@@ -31,12 +31,12 @@ pub returns-in_err-map : goal.returns-in_err-map
 returns-in_err-map c =
     let t : SameTwo c.args.src.now picture_letters = c.begins.ensures.0 c.if-not-begins.false in
     let p = err_from_is_err_and c.from_residual.result c.from_residual.ensures.1 in
-    rw (p.1, p.2) (refusing (c.in_err-map.ensures c.args.src.now _ (begins t c.header.auto.numbers c.in-Some.ensures) (sym (ap length (rest_is c.args.src.now c.in-Some.at)))))
+    rw (p.1, p.2) (refusing (c.in_err-map.ensures.judged c.args.src.now _ (begins t c.header.auto.numbers c.in-Some.ensures) (sym (ap length (rest_is c.args.src.now c.in-Some.at)))))
 
 pub returns : goal.returns
 returns c =
     let t : SameTwo c.args.src.now picture_letters = c.begins.ensures.0 c.if-not-begins.false in
-    let s : Sound _ _ _ _ _ c.in_ok-map.map c.in_ok-map.depth = c.in_ok-map.ensures in
+    let s : Sound _ _ _ _ _ c.in_ok-map.map c.in_ok-map.depth = c.in_ok-map.ensures.judged in
     let at = c.in-Some.at in
     record {
       given = λ y. absurd (y refl);

@@ -6,6 +6,6 @@ use Rattle.reader.proofs.has_room.Goals as goal
 
 pub returns-then-rocks-lent : goal.returns-then-rocks-lent
 returns-then-rocks-lent c = (
-  λ e. let few = leb-true c.args.rocks _ e in record { room = c.if-rocks-lent.true; few = omega (arith, most_markers_is) },
+  λ e. let few = leb-true c.args.rocks _ e in record { room = omega arith; few = omega (arith, most_markers_is) },
   λ s. le-leb c.args.rocks _ (omega (arith, s.few, most_markers_is)),
 )

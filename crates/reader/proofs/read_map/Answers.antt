@@ -24,7 +24,7 @@ returns-in_err-map c =
     let is : c.in_err-map.field-0.0 ≡ BadSize = let v = rw c.in_err-map.ensures.ok_part at c.in_err-map.ensures.value in cc in
     let found = rw c.in_ok-at.ensures.ok_part at c.header.ensures in
     rw (p.1, p.2, is)
-    (inl (no_sides (format_of c.args.format) _ _ _ _ c.requires.letters (head_found c.header.auto.numbers found)
+    (inl (no_sides (format_of c.args.format) _ _ _ _ c.requires.letters (head_found c.header.auto.numbers found).1
     (rw c.in_err-map.ensures.ok_part at c.sized.ensures) refl))
 
 pub returns : goal.returns
@@ -32,6 +32,6 @@ returns c =
     let found = rw c.in_ok-at.ensures.ok_part at c.header.ensures in
     let sized = rw c.in_ok-map.ensures.ok_part at c.sized.ensures in
     map_reads (format_of c.args.format) c.args.src.now c.args.lent c.read_raster.new.bits c.in_ok-map.map c.requires.letters
-    (rw (sized.width, sized.height) (head_found c.header.auto.numbers found))
+    (rw (sized.width, sized.height) (head_found c.header.auto.numbers found).1)
     c.read_raster.result
     (rw (part_is c.args.src.now c.in_ok-at.at) at c.read_raster.ensures)

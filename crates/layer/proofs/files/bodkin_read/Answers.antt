@@ -2,7 +2,8 @@
 -- the map's markers.
 use Rattle.std.proofs.Common.{arith}
 use Rattle.field.specs.Limits.{most_crossings_is}
-use Rattle.layer.proofs.Reading.{may_put, read_refused, read_taken}
+use Rattle.layer.specs.Reading.{may_put}
+use Rattle.layer.proofs.Reading.{read_refused, read_taken}
 use Rattle.layer.proofs.files.bodkin_read.Goals as goal
 
 pub read_bits-requires : goal.read_bits-requires

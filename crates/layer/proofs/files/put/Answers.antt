@@ -4,7 +4,7 @@ use Rattle.std.proofs.Common.{◌≡◌, refl, ap₂, ◌∙◌, ◌*◌, List, 
 use Rattle.field.specs.declared.Marker.{Marker}
 use Rattle.mapfile.specs.File.{markers_of}
 use Rattle.layer.proofs.Putting.{passed_none, rock_ahead, passed_next, may_mark, next_slot}
-use Rattle.layer.proofs.Reading.{put_more}
+use Rattle.layer.specs.Reading.{put_more}
 use Rattle.layer.proofs.files.put.Goals as goal
 
 pub loop-k-init : goal.loop-k-init

@@ -27,7 +27,7 @@ past-c-requires c =
 pub run-requires : goal.run-requires
 run-requires c =
     row_from c.args.out.now c.args.map.within c.requires.room c.requires.in_y c.number_of-start.ensures c.place-x.ensures
-    c.past-c.ensures.most
+    (omega (arith, c.past-c.ensures.most))
 
 pub returns : goal.returns
 returns c =

@@ -1,7 +1,0 @@
--- `enter` meets its contract: the slot is opened down to the marker's place.
-use Rattle.std.proofs.Common.{arith}
-use Rattle.records.proofs.Opening.{opening_end}
-use Rattle.records.proofs.enter.Goals as goal
-
-pub returns : goal.returns
-returns c = opening_end _ _ c.requires c.place_of-place.ensures (omega arith) c.loop-k.invariant.0
