@@ -29,7 +29,8 @@ abbrev pub ClosedOn : ℕ → ℕ → List ℕ → ℕ → ℕ → Type 0
 ClosedOn w h s = Closed (Stones w h s) w h
 
 -- What an asking comes to after the first part of the call: where that told the map's size, what is
--- done over the map; where it refused, the same refusal, and all that is lent is kept as it was.
+-- done over the map; where it refused, the same refusal: "A refusal returns its number only", and
+-- "refusals 1 to 7 ... change no lent byte".
 abbrev pub AfterFirst : {A : Type 0} → Result Size Refusal → (Size → Type 0) → Type 0 → Result A Refusal → Type 0
 AfterFirst (Ok map) done kept r = done map
 AfterFirst (Err e) done kept r = (r ≡ Err e) × kept

@@ -1,5 +1,5 @@
--- Region and drive: what is answered over a stamped sheet is what the call promises of the list; and
--- so is a refusal of the first part.
+-- Region and drive: what is answered over a stamped sheet is what the call promises of the list;
+-- and so is a refusal of the first part.
 use Rattle.std.proofs.Common.{◌≡◌, Bool, true, false, List, [], ◌∷◌, ◌↔◌, inl, ℕ, ◌≤◌, length, arith}
 use Rattle.std.proofs.Math.Decide.{ℕ_discrete, dec_le}
 use Rattle.std.specs.Prelude.{Result, Ok, Err}

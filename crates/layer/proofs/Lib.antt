@@ -1,4 +1,5 @@
--- Laws that the proofs of the code cite: the way from what the parts promise to the calls' promises.
+-- Laws that the proofs of the code cite: the way from what the parts promise to the calls'
+-- promises.
 mod Tables
 mod Joining
 mod LabelAnswers

@@ -1,5 +1,5 @@
--- The call's promise at each place where reading ends: the first part refuses, or the second has put
--- the map's markers.
+-- The call's promise at each place where reading ends: the first part refuses, or the second has
+-- put the map's markers.
 use Rattle.std.specs.Prelude.{◌≡◌, refl, List, [], ℕ, ◌*◌, length, take, Result, Ok, Err}
 use Rattle.std.proofs.lemmas.Result.{err_from_is_err_and}
 use Rattle.field.specs.declared.Marker.{Marker}

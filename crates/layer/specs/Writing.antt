@@ -109,8 +109,8 @@ module _ {m : LentMap} {low : Bool} {r : Result Size Refusal} {sheet sheet' : Li
       go (no_list k l e) = absurd (l f)
       go (passed k l e) = e
 
--- A sheet's marks are the cart's rocks, where these are stamped on it: so the file over its marks is
--- the file over them, and row 17 over its marks is the list's.
+-- A sheet's marks are the cart's rocks, where these are stamped on it: so the file over its marks
+-- is the file over them, and row 17 over its marks is the list's.
 module _ {m : LentMap} {stamped : List ℕ} (q : StampedWith m.width m.height m.clearance false m.list m.count stamped) where
   pub marked_rock : (x y : ℕ) → OnIt m x y → (Marked stamped m.width m.height x y ↔ RocksOf m x y)
   marked_rock x y o = (λ k. (q.rocks.sound x y k).stone, λ r. q.rocks.complete x y (record { on = o; stone = r }))
@@ -122,8 +122,8 @@ module _ {m : LentMap} {stamped : List ℕ} (q : StampedWith m.width m.height m.
   short_both =
       (λ t. record { file = t.file; written = carried.0 t.written; short = t.short }, λ t. record { file = t.file; written = carried.1 t.written; short = t.short })
 
--- All markers are stamped first, and r₁ is answered. Where that is the map's size, r₂ is answered by
--- their marks.
+-- All markers are stamped first, and r₁ is answered. Where that is the map's size, r₂ is answered
+-- by their marks.
 module _ {m : LentMap} (r₁ : Result Size Refusal) (r₂ : Result Unit Refusal) {sheet marked : List ℕ} (area : Area m.width m.height (length sheet))
     (p : Prepared m true 0 0 0 0 true sheet marked r₁) (g : IfOk r₁ (λ _. SharedTold m.count marked r₂)) where
   pub second : Second m (told (both r₁ r₂))

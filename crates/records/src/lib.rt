@@ -94,8 +94,8 @@ pub fn in_use(list: &[Marker], count: usize, id: u16) -> bool
     find(list, count, id).used
 }
 
-// Enters a marker at this place, which is its place by id: so it need not be looked for again. Hands
-// back the new count.
+// Enters a marker at this place, which is its place by id: so it need not be looked for again.
+// Hands back the new count.
 pub fn enter_at(list: &mut [Marker], count: usize, place: usize, marker: Marker) -> usize
     requires may { MayEnter list.old count marker }
     requires belongs { Belongs list.old count marker.id place }
@@ -117,8 +117,8 @@ pub fn enter(list: &mut [Marker], count: usize, m: Marker) -> usize
     enter_at(list, count, place, m)
 }
 
-// Clears the marker at this place: those behind it move down by one, and the slot so freed is set to
-// zeros.
+// Clears the marker at this place: those behind it move down by one, and the slot so freed is set
+// to zeros.
 pub fn clear_at(list: &mut [Marker], count: usize, place: usize)
     requires below { place < count }
     requires lent { count ≤ length list.old }

@@ -1,4 +1,5 @@
--- `bodkin_enter` keeps its promise: a refusal leaves the list, and a place on the map fits a marker.
+-- `bodkin_enter` keeps its promise: a refusal leaves the list, and a place on the map fits a
+-- marker.
 use Rattle.calls.specs.Rules.{lent_list}
 use Rattle.layer.proofs.Listing.{enter_early, enter_refused, enter_fits, enter_may, enter_belongs, enter_done}
 use Rattle.layer.proofs.bodkin_enter.Goals as goal

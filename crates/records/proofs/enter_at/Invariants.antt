@@ -1,5 +1,5 @@
--- The loop of `enter_at` keeps Opening: all markers below the free slot k stand where they stood, all
--- from k on stand one higher. The free slot comes down with each turn.
+-- The loop of `enter_at` keeps Opening: all markers below the free slot k stand where they stood,
+-- all from k on stand one higher. The free slot comes down with each turn.
 use Rattle.std.proofs.Common.{◌≤◌}
 use Rattle.records.proofs.Opening.{Opening}
 use Rattle.records.proofs.enter_at.Given as goal

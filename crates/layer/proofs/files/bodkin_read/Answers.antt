@@ -1,5 +1,5 @@
--- `bodkin_read` keeps its promise: there is room for the bits of the largest map, and what is put are
--- the map's markers.
+-- `bodkin_read` keeps its promise: there is room for the bits of the largest map, and what is put
+-- are the map's markers.
 use Rattle.std.proofs.Common.{arith}
 use Rattle.field.specs.Limits.{most_crossings_is}
 use Rattle.layer.specs.Reading.{may_put}
