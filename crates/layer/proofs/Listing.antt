@@ -1,6 +1,6 @@
 -- Entering and clearing: what is found of the map, the list and the id tells which rows apply, and
 -- what is left where none does.
-use Rattle.std.proofs.Common.{◌≡◌, refl, List, [], ◌∷◌, inl, inr, ℕ, ◌+◌, ◌<◌, ◌≤◌, ◌^◌, length, arith}
+use Rattle.std.proofs.Common.{◌≡◌, refl, Bool, true, List, [], ◌∷◌, ◌↔◌, inl, inr, ℕ, ◌+◌, ◌<◌, ◌≤◌, ◌^◌, length, arith}
 use Rattle.std.proofs.Math.Decide.{dec_lt}
 use Rattle.std.specs.Prelude.{Result, Ok, Err}
 use Rattle.std.proofs.lemmas.Result.{err_from_is_err_and}
@@ -8,13 +8,13 @@ use Rattle.field.specs.declared.Marker.{Marker}
 use Rattle.field.specs.declared.refusals.Refusal.{Refusal}
 use Rattle.field.specs.Refusals.{number_of}
 use Rattle.field.specs.Limits.{side_is}
-use Rattle.markers.specs.List.{slot, Cleared}
+use Rattle.markers.specs.List.{slot, InUse, Cleared}
 use Rattle.markers.specs.Promise.{Rising, marker, Enters, Clears}
 use Rattle.records.specs.declared.Spot.{Spot}
 use Rattle.records.specs.Promise.{MayEnter, MayClear, Belongs}
 use Rattle.records.proofs.Seeking.{found as in_place}
 use Rattle.calls.specs.Rules
-use Rattle.calls.specs.Rules.{LentMap, OnIt, Gives}
+use Rattle.calls.specs.Rules.{LentMap, Sized, OnIt, Formed, Gives}
 use Rattle.calls.specs.RuleLaws.{None, gives_none, gives_reworded, same, holds, on_holds}
 use Rattle.calls.specs.Calls.{EnterCall, ClearCall}
 use Rattle.calls.specs.Told.{counted}
@@ -43,44 +43,46 @@ module _ (m : LentMap) {id : ℕ} where
       go (inl k) = rw k.1 (inl (k.0, refl))
       go (inr k) = rw k.2 (inr (λ f. f k.0, inl (k.1, refl)))
 
-  module _ {spot : Spot} (found : Seeks m id (Ok spot)) where
+  -- Where the size is good and the list is well formed, the rows ask whether the id is in use, and
+  -- nothing of its place.
+  module _ {used : Bool} (found : Sized m × Formed m × ((used ≡ true) ↔ InUse m.list m.count id)) where
     -- So the list's ids rise.
     rising : Rising m.list m.count
     rising = record { lent = found.1.lent; rising = found.1.rising }
 
-    enter_gives : {x y n : ℕ} → Gives (new_judged spot.used m.width m.height id x y m.count (length m.list)) n → Gives (Rules.enter_table m id x y) n
+    enter_gives : {x y n : ℕ} → Gives (new_judged used m.width m.height id x y m.count (length m.list)) n → Gives (Rules.enter_table m id x y) n
     enter_gives {x} {y} {n} g =
         inr (
           λ f. f found.0,
           inr (
             λ f. f found.1,
-            gives_reworded (new_judged spot.used m.width m.height id x y m.count (length m.list)) (Rules.new_rule m id x y ∷ Rules.in_use_rule m id ∷ Rules.slot_rule m ∷ []) n
-                (refl, same, λ _. (refl, found.2.used, λ _. (refl, same, λ _. tt))) g,
+            gives_reworded (new_judged used m.width m.height id x y m.count (length m.list)) (Rules.new_rule m id x y ∷ Rules.in_use_rule m id ∷ Rules.slot_rule m ∷ []) n
+                (refl, same, λ _. (refl, found.2, λ _. (refl, same, λ _. tt))) g,
           ),
         )
 
-    clear_gives : {n : ℕ} → Gives (clear_judged spot.used) n → Gives (Rules.clear_table m id) n
+    clear_gives : {n : ℕ} → Gives (clear_judged used) n → Gives (Rules.clear_table m id) n
     clear_gives {n} g =
         inr (
           λ f. f found.0,
           inr (
             λ f. f found.1,
-            gives_reworded (clear_judged spot.used) (Rules.not_in_use_rule m id ∷ []) n (refl, no_means spot.used found.2.used, λ _. tt) g,
+            gives_reworded (clear_judged used) (Rules.not_in_use_rule m id ∷ []) n (refl, no_means used found.2, λ _. tt) g,
           ),
         )
 
-    pub enter_refused : {x y height : ℕ} (e : Refusal) (r : Result ℕ Refusal) → Gives (new_judged spot.used m.width m.height id x y m.count (length m.list)) (number_of e) → Handed e r
+    pub enter_refused : {x y height : ℕ} (e : Refusal) (r : Result ℕ Refusal) → Gives (new_judged used m.width m.height id x y m.count (length m.list)) (number_of e) → Handed e r
         → EnterCall m id x y height m.list (counted r)
     enter_refused e r g f =
         let q = err_from_is_err_and r f.1 in
         rw (q.1, q.2) (record { given = enter_gives g; kept = λ _. refl; refused = λ _. refl; done = λ z. absurd (some_number e z) })
 
-    pub clear_refused : (e : Refusal) (r : Result ℕ Refusal) → Gives (clear_judged spot.used) (number_of e) → Handed e r → ClearCall m id m.list (counted r)
+    pub clear_refused : (e : Refusal) (r : Result ℕ Refusal) → Gives (clear_judged used) (number_of e) → Handed e r → ClearCall m id m.list (counted r)
     clear_refused e r g f =
         let q = err_from_is_err_and r f.1 in
         rw (q.1, q.2) (record { given = clear_gives g; kept = λ _. refl; refused = λ _. refl; done = λ z. absurd (some_number e z) })
 
-    module _ {x y : ℕ} (g : Gives (new_judged spot.used m.width m.height id x y m.count (length m.list)) 0) where
+    module _ {x y : ℕ} (g : Gives (new_judged used m.width m.height id x y m.count (length m.list)) 0) where
       free : None (Rules.enter_table m id x y)
       free = gives_none (Rules.enter_table m id x y) 0 0 (omega arith) (enter_gives g) refl
 
@@ -99,27 +101,34 @@ module _ (m : LentMap) {id : ℕ} where
             room = holds (dec_lt m.count (length m.list)) (λ f. free.1.1.1.1.0 (inl (omega arith)));
           }
 
-      -- The place found is the marker's by id.
-      pub enter_belongs : Belongs m.list m.count id spot.place
-      enter_belongs = found.2.at
-
       pub enter_done : {height n : ℕ} {after : List Marker} → Enters m.list m.count (marker id x y height) after n → EnterCall m id x y height after (counted (Ok n))
       enter_done e = record { given = enter_gives g; kept = λ f. absurd (f refl); refused = λ f. absurd (f refl); done = λ _. e }
 
-    module _ (g : Gives (clear_judged spot.used) 0) where
+    module _ (g : Gives (clear_judged used) 0) where
       pub clear_may : MayClear m.list m.count id
       clear_may =
-          record { rising = rising; used = found.2.used.0 (not_no spot.used (gives_none (clear_judged spot.used) 0 0 (omega arith) g refl).0) }
-
-      -- The marker stands in its place, and bears the id.
-      stands : (spot.place < m.count) × ((slot m.list spot.place).id ≡ id)
-      stands = in_place id rising found.2.at clear_may.used
-
-      pub clear_fits : (spot.place < m.count) × (m.count ≤ length m.list)
-      clear_fits = (stands.0, rising.lent)
-
-      pub cleared : {n : ℕ} {after : List Marker} → Cleared m.list m.count (slot m.list spot.place).id after → n + 1 ≡ m.count → Clears m.list m.count id after n
-      cleared k e = record { list = rw stands.1 at k; counted = e }
+          record { rising = rising; used = found.2.0 (not_no used (gives_none (clear_judged used) 0 0 (omega arith) g refl).0) }
 
       pub clear_done : {n : ℕ} {after : List Marker} → Clears m.list m.count id after n → ClearCall m id after (counted (Ok n))
       clear_done e = record { given = clear_gives g; kept = λ f. absurd (f refl); refused = λ f. absurd (f refl); done = λ _. e }
+
+  -- With its place the id is found too: what the rows ask of it, and where the marker is entered or
+  -- cleared.
+  module _ {spot : Spot} (found : Seeks m id (Ok spot)) where
+    pub for_rows : Sized m × Formed m × ((spot.used ≡ true) ↔ InUse m.list m.count id)
+    for_rows = (found.0, found.1, found.2.used)
+
+    -- The place found is the marker's by id.
+    pub enter_belongs : Belongs m.list m.count id spot.place
+    enter_belongs = found.2.at
+
+    module _ (g : Gives (clear_judged spot.used) 0) where
+      -- The marker stands in its place, and bears the id.
+      stands : (spot.place < m.count) × ((slot m.list spot.place).id ≡ id)
+      stands = in_place id (rising for_rows) found.2.at (clear_may for_rows g).used
+
+      pub clear_fits : (spot.place < m.count) × (m.count ≤ length m.list)
+      clear_fits = (stands.0, found.1.lent)
+
+      pub cleared : {n : ℕ} {after : List Marker} → Cleared m.list m.count (slot m.list spot.place).id after → n + 1 ≡ m.count → Clears m.list m.count id after n
+      cleared k e = record { list = rw stands.1 at k; counted = e }
