@@ -112,8 +112,8 @@ module _ (m : LentMap) {id : ℕ} where
       pub clear_done : {n : ℕ} {after : List Marker} → Clears m.list m.count id after n → ClearCall m id after (counted (Ok n))
       clear_done e = record { given = clear_gives g; kept = λ f. absurd (f refl); refused = λ f. absurd (f refl); done = λ _. e }
 
-  -- With its place the id is found too: what the rows ask of it, and where the marker is entered or
-  -- cleared.
+  -- Of a spot found, the rows ask only whether the id is in use; entering and clearing go by its
+  -- place.
   module _ {spot : Spot} (found : Seeks m id (Ok spot)) where
     pub for_rows : Sized m × Formed m × ((spot.used ≡ true) ↔ InUse m.list m.count id)
     for_rows = (found.0, found.1, found.2.used)
